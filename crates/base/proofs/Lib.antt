@@ -1,0 +1,7 @@
+pub mod Truth
+pub mod Refusals
+pub mod Below
+pub mod Bytes
+pub mod Bits
+pub mod Sets
+pub mod Weight

@@ -1,0 +1,44 @@
+//! The peered board of document 01, written plainly from its text.
+//!
+//! It is meant to be read beside the document and to be compared with the
+//! engine. It is not fast, and its state is not a buffer: number 14 (state),
+//! which is about the buffer's bytes, has no place here.
+//!
+//! - `table`: the ballot table, its items, the clash, the thresholds
+//! - `state`: what is held outside and by each peer
+//! - `form`: 13 bytes as a step, or 5
+//! - `step`: the refusals of each op in their order, and its effect
+//! - `report`: the rehearsal, from input bytes to output bytes
+//! - `ideal`: the ideal board
+
+pub mod form;
+pub mod ideal;
+pub mod report;
+pub mod state;
+pub mod step;
+pub mod table;
+
+/// The numbers on the report, but for 0 (done) and 14 (state).
+#[derive(Clone, Copy, Debug, PartialEq, Eq)]
+pub enum Refusal {
+    Header = 1,
+    Pairs = 2,
+    Item = 3,
+    Twin = 4,
+    Form = 5,
+    Name = 6,
+    Role = 7,
+    Down = 8,
+    Period = 9,
+    Unknown = 10,
+    Clash = 11,
+    Short = 12,
+    Full = 13,
+    Input = 15,
+}
+
+impl Refusal {
+    pub fn number(self) -> u8 {
+        self as u8
+    }
+}
