@@ -1,12 +1,12 @@
 -- Laws of the bits of a number.
-use Prim.Native.Nat.{ℕ, zero, suc, _+_, _-_, _*_, _/_, _%_, _^_, _≤_, _<_, max}
+use Prim.Native.Nat.{ℕ, zero, suc, _+_, _*_, _/_, _%_, _^_, _≤_, _<_, max, min}
 use native.Mathlib.Nat.{le-of-suc-le-suc, not-suc-le-zero, div-div-eq-div-mul, pow-succ', pow-suc, div-one, zero-add, suc-add}
 use native.Mathlib.Numerals.{add-one}
 use native.Mathlib.Omega.{arith}
 use mathlib.Core.Path.{_≡_, refl, sym, ap, ap₂, _∙_}
-use mathlib.Core.Bool.{Bool, true, false, _||_}
+use mathlib.Core.Bool.{Bool, true, false, _&&_, _||_}
 use lib.Dec.{eqb, eqb·suc-suc, eqb·zero-suc, eqb·suc-zero}
-use lib.Bits.{bitOr, or-shr, or-step, block-half, block-odd}
+use lib.Bits.{bitOr, bitAnd, or-shr, or-step, and-shr, and-step, block-half, block-odd}
 use lib.Arith.{lt-one}
 use Rattle.base.specs.Bits.{bit, digit, pack}
 
@@ -54,6 +54,26 @@ bit-or x y zero =
     low : (a d : ℕ) → d < 2 → (a * 2 + d) % 2 ≡ d
     low a d h = omega arith
 bit-or x y (suc k) = ap (λ (n : ℕ). bit n k) (or-shr x y 1) ∙ bit-or (x / 2) (y / 2) k
+
+digit-and : (x y : ℕ) → x < 2 → y < 2 → eqb (min x y) 1 ≡ (eqb x 1 && eqb y 1)
+digit-and zero zero p q = refl
+digit-and zero (suc zero) p q = refl
+digit-and (suc zero) zero p q = refl
+digit-and (suc zero) (suc zero) p q = refl
+digit-and (suc (suc x)) y p q = absurd (omega arith)
+digit-and zero (suc (suc y)) p q = absurd (omega arith)
+digit-and (suc zero) (suc (suc y)) p q = absurd (omega arith)
+
+pub bit-and : (x y k : ℕ) → bit (bitAnd x y) k ≡ (bit x k && bit y k)
+unfolding bit
+bit-and x y zero =
+    ap (λ (n : ℕ). eqb (n % 2) 1) (and-step x y)
+    ∙ ap (λ (n : ℕ). eqb n 1) (low (bitAnd (x / 2) (y / 2)) (min (x % 2) (y % 2)) (omega arith))
+    ∙ digit-and (x % 2) (y % 2) (omega arith) (omega arith)
+  where
+    low : (a d : ℕ) → d < 2 → (a * 2 + d) % 2 ≡ d
+    low a d h = omega arith
+bit-and x y (suc k) = ap (λ (n : ℕ). bit n k) (and-shr x y 1) ∙ bit-and (x / 2) (y / 2) k
 
 -- a number below 2 ^ n has no bit at n or above
 pub bit-high : (n x k : ℕ) → x < 2 ^ n → n ≤ k → bit x k ≡ false

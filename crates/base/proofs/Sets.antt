@@ -1,13 +1,13 @@
 -- Laws of sets with one member more: it is in, what was in stays in, and what holds of it and of the others holds of all.
 use Prim.Native.Nat.{ℕ, _+_, _≤_}
 use native.Mathlib.Omega.{arith}
-use mathlib.Core.Bool.{Bool, true, false, cond, _&&_, _||_}
-use mathlib.Core.Path.{_≡_, sym, subst}
+use mathlib.Core.Bool.{Bool, true, false, cond, _&&_}
+use mathlib.Core.Path.{_≡_, refl, sym, subst, fun-ext}
 use mathlib.Core.Logic.{_⊎_, inl, inr}
 use lib.Dec.{eqb}
 use borrow.Author.Tests.{eqb-true}
 use Rattle.base.specs.Sets.{add1, add2, add3, add4, setAt}
-use Rattle.base.proofs.Truth.{either, and-i, and-l, and-r, or-l, or-r, or-cases, eqb-self}
+use Rattle.base.proofs.Truth.{either, and-i, and-l, and-r, or-l, or-r, or-cases, iff, eqb-self}
 
 is : (x a : ℕ) → eqb x a ≡ true → a ≡ x
 is x a e = sym (eqb-true x a e)
@@ -111,3 +111,21 @@ set-elim P a v f n o k = go (either (eqb k a))
 -- a counter that rises by one
 pub rises : (a : ℕ) (f : ℕ → ℕ) (k : ℕ) → f k ≤ setAt a (f a + 1) f k
 rises a f = set-elim (λ k v. f k ≤ v) a (f a + 1) f (omega arith) (λ k. omega arith)
+
+-- a member added again, and a value set again, change nothing
+
+pub add1-again : (a : ℕ) (S : ℕ → Bool) → S a ≡ true → add1 a S ≡ S
+add1-again a S e = fun-ext (λ x. iff _ _ (grow1 {P = λ x. S x ≡ true} a S e (λ x h. h) x) (old1 a S x))
+
+pub add2-again : (a b : ℕ) (S : ℕ → ℕ → Bool) → S a b ≡ true → add2 a b S ≡ S
+add2-again a b S e = fun-ext (λ x. fun-ext (λ y. iff _ _ (grow2 {P = λ x y. S x y ≡ true} a b S e (λ x y h. h) x y) (old2 a b S x y)))
+
+pub add3-again : (a b c : ℕ) (S : ℕ → ℕ → ℕ → Bool) → S a b c ≡ true → add3 a b c S ≡ S
+add3-again a b c S e = fun-ext (λ x. fun-ext (λ y. fun-ext (λ z. iff _ _ (grow3 {P = λ x y z. S x y z ≡ true} a b c S e (λ x y z h. h) x y z) (old3 a b c S x y z))))
+
+pub add4-again : (a b c d : ℕ) (S : ℕ → ℕ → ℕ → ℕ → Bool) → S a b c d ≡ true → add4 a b c d S ≡ S
+add4-again a b c d S e =
+    fun-ext (λ x. fun-ext (λ y. fun-ext (λ z. fun-ext (λ w. iff _ _ (grow4 {P = λ x y z w. S x y z w ≡ true} a b c d S e (λ x y z w h. h) x y z w) (old4 a b c d S x y z w)))))
+
+pub set-again : {A : Type 0} (a : ℕ) (v : A) (f : ℕ → A) → f a ≡ v → setAt a v f ≡ f
+set-again a v f e = fun-ext (set-elim (λ k w. w ≡ f k) a v f (sym e) (λ k. refl))

@@ -1,0 +1,67 @@
+-- Laws of clashes: they are symmetric, no item clashes with itself, and a mask has them bit by bit.
+use Prim.Native.Nat.{ℕ, _<_, _≤_}
+use native.Mathlib.Omega.{arith}
+use mathlib.Core.Bool.{false}
+use mathlib.Core.List.{List}
+use mathlib.Core.Path.{_≡_, refl}
+use Rattle.base.specs.Bits.{bit}
+use Rattle.base.proofs.Truth.{eqb-sym}
+use Rattle.base.proofs.Bytes.{same-self, same-sym}
+use Rattle.base.proofs.Bits.{bit-pack, bit-high, pack-lt}
+use Rattle.ballot.specs.declared.item.Kind.{Kind}
+use Rattle.ballot.specs.declared.item.Kind.the-variants.{Vote, Audit, Cancellation}
+use Rattle.ballot.specs.declared.item.Reading.{Reading}
+use Rattle.ballot.specs.declared.item.Reading.the-variants.{Good, Wrong}
+use Rattle.ballot.specs.Header.{itemsOf}
+use Rattle.ballot.specs.Item.{readItem}
+use Rattle.ballot.specs.Table.{itemText}
+use Rattle.ballot.specs.Clash.{kindsClash, readingsClash, clash, clashIn, maskWidth, clashMask}
+
+-- by what the items are
+
+kinds-sym : (a b : Kind) → kindsClash a b ≡ kindsClash b a
+kinds-sym (Vote m) (Vote n) = refl
+kinds-sym (Vote m) Audit = refl
+kinds-sym (Vote m) Cancellation = refl
+kinds-sym Audit (Vote n) = refl
+kinds-sym Audit Audit = refl
+kinds-sym Audit Cancellation = refl
+kinds-sym Cancellation (Vote n) = refl
+kinds-sym Cancellation Audit = refl
+kinds-sym Cancellation Cancellation = refl
+
+readings-sym : (x y : Reading) → readingsClash x y ≡ readingsClash y x
+readings-sym Wrong Wrong = refl
+readings-sym Wrong (Good b) = refl
+readings-sym (Good a) Wrong = refl
+readings-sym (Good a) (Good b) = rw (eqb-sym (a .ballot) (b .ballot), kinds-sym (a .kind) (b .kind))
+
+-- by their texts
+
+pub clash-sym : (a b : List ℕ) → clash a b ≡ clash b a
+unfolding clash
+clash-sym a b = rw (same-sym a b, readings-sym (readItem a) (readItem b))
+
+pub clash-self : (a : List ℕ) → clash a a ≡ false
+unfolding clash
+clash-self a = rw (same-self a)
+
+-- by their numbers
+
+pub clash-in-sym : (s : List ℕ) (i j : ℕ) → clashIn s i j ≡ clashIn s j i
+unfolding clashIn
+clash-in-sym s i j = clash-sym (itemText s i) (itemText s j)
+
+pub clash-in-self : (s : List ℕ) (i : ℕ) → clashIn s i i ≡ false
+unfolding clashIn
+clash-in-self s i = clash-self (itemText s i)
+
+-- by a mask: bit j is item j, and there is no bit past the items
+
+pub mask-bit : (s : List ℕ) (i j : ℕ) → itemsOf s ≤ 64 → j < itemsOf s → bit (clashMask s i) j ≡ clashIn s i j
+unfolding clashMask
+mask-bit s i j most l = bit-pack (maskWidth s) (clashIn s i) j (omega arith)
+
+pub mask-past : (s : List ℕ) (i j : ℕ) → itemsOf s ≤ j → bit (clashMask s i) j ≡ false
+unfolding clashMask
+mask-past s i j l = bit-high (maskWidth s) (clashMask s i) j (pack-lt (maskWidth s) (clashIn s i)) (omega arith)

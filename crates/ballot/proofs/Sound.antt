@@ -1,0 +1,92 @@
+-- A table that is not refused is sound: each of its facts comes from one of the tests that it has passed.
+use Prim.Native.Nat.{ℕ, _≤_, _<_}
+use native.Mathlib.Omega.{arith}
+use mathlib.Core.Bool.{true, false}
+use mathlib.Core.List.{List}
+use mathlib.Core.Logic.{_⊎_, inl, inr}
+use mathlib.Core.Path.{_≡_, refl, sym}
+use lib.Dec.{ltb}
+use borrow.Author.Tests.{leb-true, ltb-true, ltb-false, not-true, not-false}
+use Rattle.base.proofs.Truth.{split, either, and-l, and-r}
+use Rattle.base.proofs.Below.{every-at}
+use Rattle.base.proofs.Bytes.{between-true, same-of-eq}
+use Rattle.base.proofs.Refusals.{passed}
+use Rattle.ballot.specs.Header.{headerSize, peersOf, thresholdOf, honestOf, periodsOf, itemsOf, isHonest}
+use Rattle.ballot.specs.Header.{leastThreshold, thresholdOk, fieldsOk, headerOk}
+use Rattle.ballot.specs.Table.{tablePairsOk, itemText, itemOk, itemsOk, differ, newAt, noTwins, tableRefusals, refusal}
+use Rattle.ballot.specs.Sound.{Sound}
+use Rattle.ballot.proofs.Fields.{none-above, honest-among}
+use Rattle.ballot.proofs.Threshold.{threshold-rule}
+use Rattle.ballot.proofs.Texts.{text-within, text-length}
+
+-- the header
+
+module _ (s : List ℕ) (ok : headerOk s ≡ true) where
+  peers-range : (1 ≤ peersOf s) × (peersOf s ≤ 16)
+  unfolding headerOk fieldsOk thresholdOk
+  peers-range = between-true 1 (peersOf s) 16 (search (and-l, and-r))
+
+  threshold-range : (leastThreshold (peersOf s) ≤ thresholdOf s) × (thresholdOf s ≤ peersOf s)
+  unfolding headerOk fieldsOk thresholdOk
+  threshold-range = between-true (leastThreshold (peersOf s)) (thresholdOf s) (peersOf s) (search (and-l, and-r))
+
+  honest-range : (k : ℕ) → isHonest s k ≡ true → (1 ≤ k) × (k ≤ peersOf s)
+  unfolding headerOk fieldsOk
+  honest-range = honest-among s (peersOf s) (none-above (peersOf s) (honestOf s) (search (and-l, and-r)))
+
+  periods-range : (1 ≤ periodsOf s) × (periodsOf s ≤ 8)
+  unfolding headerOk fieldsOk
+  periods-range = between-true 1 (periodsOf s) 8 (search (and-l, and-r))
+
+  items-range : itemsOf s ≤ 64
+  unfolding headerOk fieldsOk
+  items-range = leb-true (itemsOf s) 64 (search (and-l, and-r))
+
+-- the items
+
+all-good : (s : List ℕ) → itemsOk s ≡ true → (k : ℕ) → k < itemsOf s → itemOk s k ≡ true
+unfolding itemsOk
+all-good s ok = every-at (itemOk s) (itemsOf s) ok
+
+module _ (s : List ℕ) (ok : noTwins s ≡ true) where
+  not-before : (i j : ℕ) → i < j → j < itemsOf s → itemText s i ≡ itemText s j → ⊥
+  unfolding noTwins newAt differ
+  not-before i j before l e =
+      let new = every-at (newAt s) (itemsOf s) ok j l in
+      split (same-of-eq _ _ e) (not-true _ (every-at (differ s j) j new i before))
+
+  same-item : (i j : ℕ) → i < itemsOf s → j < itemsOf s → itemText s i ≡ itemText s j → i ≡ j
+  same-item i j l m e = go (either (ltb i j)) (either (ltb j i))
+    where
+      go : (ltb i j ≡ true) ⊎ (ltb i j ≡ false) → (ltb j i ≡ true) ⊎ (ltb j i ≡ false) → i ≡ j
+      go (inl p) q = absurd (not-before i j (ltb-true i j p) m e)
+      go (inr p) (inl q) = absurd (not-before j i (ltb-true j i q) l (sym e))
+      go (inr p) (inr q) = omega (arith, ltb-false i j p, ltb-false j i q)
+
+-- the whole table
+
+pub sound : (s : List ℕ) → refusal s ≡ 0 → Sound s
+unfolding refusal tablePairsOk
+sound s e =
+    let tests = passed (tableRefusals s) refl e in
+    let header = not-false (headerOk s) (tests .0) in
+    let pairs = not-false (tablePairsOk s) (tests .1 .0) in
+    let items = not-false (itemsOk s) (tests .1 .1 .0) in
+    let twins = not-false (noTwins s) (tests .1 .1 .1 .0) in
+    let peers = peers-range s header in
+    let threshold = threshold-range s header in
+    let periods = periods-range s header in
+    record {
+      peers-least = peers .0;
+      peers-most = peers .1;
+      threshold-rule = threshold-rule (peersOf s) (thresholdOf s) (peers .0) (peers .1) (threshold .0);
+      threshold-most = threshold .1;
+      honest-peer = honest-range s header;
+      periods-least = periods .0;
+      periods-most = periods .1;
+      items-most = items-range s header;
+      text-within = text-within s (headerSize s) (itemsOf s) pairs;
+      text-length = text-length s (headerSize s) (itemsOf s) pairs;
+      text-good = all-good s items;
+      no-twins = same-item s twins;
+    }

@@ -1,0 +1,21 @@
+-- The reading is that of the item's text, and its number decides.
+use borrow.Author.Needs.{needs}
+use Rattle.ballot.specs.Table.{itemOk}
+use Rattle.ballot.proofs.item_ok.Statement.{statement}
+use Rattle.ballot.proofs.item_ok.Tie as tie
+
+item-text-requires : tie.Need-item-text-requires
+item-text-requires c κs = search needs
+
+read-item-requires : tie.Need-read-item-requires
+read-item-requires c κs = search needs
+
+reading-number-requires : tie.Need-reading-number-requires
+reading-number-requires c κs = search needs
+
+returns : tie.Need-returns
+unfolding itemOk
+returns c = simp (c .reading-number .ensures, c .before .read-item .ensures, c .before .before .item-text .ensures)
+
+pub item-ok-spec : {M : Type 1} → statement M
+item-ok-spec = tie.close (tie.spec item-text-requires read-item-requires reading-number-requires returns)

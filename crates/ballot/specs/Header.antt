@@ -1,0 +1,71 @@
+-- The ballot table's header: its fields, and whether each is in range.
+use Prim.Native.Nat.{ℕ, zero, suc, _+_, _-_, _*_, _/_, _^_}
+use mathlib.Core.Bool.{Bool, false, _&&_}
+use mathlib.Core.List.{List, [], _∷_}
+use lib.Dec.{leb, eqb}
+use lib.ListN.{length, getD}
+use Rattle.base.specs.Bytes.{byteAt, between}
+use Rattle.base.specs.Bits.{bit}
+use Rattle.base.specs.Weight.{weight, ones}
+
+-- the header's length in bytes, the same for every table
+abbrev pub headerSize : List ℕ → ℕ
+headerSize s = 6
+
+-- byte i of the header: every field is read through it
+abbrev pub fieldOf : List ℕ → ℕ → ℕ
+fieldOf s i = byteAt s i
+
+-- n, the number of peers
+abbrev pub peersOf : List ℕ → ℕ
+peersOf s = fieldOf s 0
+
+-- t, the threshold
+abbrev pub thresholdOf : List ℕ → ℕ
+thresholdOf s = fieldOf s 1
+
+-- the honest set: two bytes, high byte first; bit k - 1 is peer k
+abbrev pub honestOf : List ℕ → ℕ
+honestOf s = fieldOf s 2 * 256 + fieldOf s 3
+
+-- P, the number of periods
+abbrev pub periodsOf : List ℕ → ℕ
+periodsOf s = fieldOf s 4
+
+-- m, the number of items
+abbrev pub itemsOf : List ℕ → ℕ
+itemsOf s = fieldOf s 5
+
+-- peer k is honest; there is no peer 0
+unfoldable pub isHonest : List ℕ → ℕ → Bool
+isHonest s zero = false
+isHonest s (suc k) = bit (honestOf s) k
+
+-- h, the number of honest peers
+abbrev pub honestCount : List ℕ → ℕ
+honestCount s = weight ones (peersOf s) (isHonest s)
+
+-- the least threshold for 1 to 16 peers
+unfoldable pub leastTable : List ℕ
+leastTable = 1 ∷ 2 ∷ 3 ∷ 3 ∷ 4 ∷ 5 ∷ 5 ∷ 6 ∷ 7 ∷ 7 ∷ 8 ∷ 9 ∷ 9 ∷ 10 ∷ 11 ∷ 11 ∷ []
+
+-- the least threshold for n peers
+unfoldable pub leastThreshold : ℕ → ℕ
+unfolding leastTable
+leastThreshold n = getD leastTable (n - 1) 0
+
+-- no bit of the set stands above peer n
+abbrev pub noneAbove : ℕ → ℕ → Bool
+noneAbove n set = eqb (set / 2 ^ n) 0
+
+-- there are 1 to 16 peers, and t runs from the least threshold for them to all of them
+unfoldable pub thresholdOk : ℕ → ℕ → Bool
+thresholdOk n t = between 1 n 16 && between (leastThreshold n) t n
+
+-- every field is in range
+unfoldable pub fieldsOk : ℕ → ℕ → ℕ → ℕ → ℕ → Bool
+fieldsOk n t honest periods items = thresholdOk n t && (noneAbove n honest && (between 1 periods 8 && leb items 64))
+
+-- the header is whole, and every field of it is in range
+unfoldable pub headerOk : List ℕ → Bool
+headerOk s = leb (headerSize s) (length s) && fieldsOk (peersOf s) (thresholdOf s) (honestOf s) (periodsOf s) (itemsOf s)

@@ -1,0 +1,30 @@
+-- What a table that is not refused has.
+use Prim.Native.Nat.{ℕ, _+_, _*_, _≤_, _<_}
+use mathlib.Core.Bool.{true}
+use mathlib.Core.List.{List}
+use mathlib.Core.Path.{_≡_}
+use lib.ListN.{length}
+use Rattle.ballot.specs.Header.{headerSize, peersOf, thresholdOf, periodsOf, itemsOf, isHonest}
+use Rattle.ballot.specs.Pairs.{offsetOf, sizeOf}
+use Rattle.ballot.specs.Table.{itemText, itemOk}
+
+pub record Sound (s : List ℕ) : Type 0 where
+  -- n is 1 to 16
+  pub peers-least : 1 ≤ peersOf s
+  pub peers-most : peersOf s ≤ 16
+  -- t is more than two thirds of n, and at most n
+  pub threshold-rule : 2 * peersOf s < 3 * thresholdOf s
+  pub threshold-most : thresholdOf s ≤ peersOf s
+  -- the honest peers are among the n
+  pub honest-peer : (k : ℕ) → isHonest s k ≡ true → (1 ≤ k) × (k ≤ peersOf s)
+  -- P is 1 to 8
+  pub periods-least : 1 ≤ periodsOf s
+  pub periods-most : periodsOf s ≤ 8
+  -- m is 0 to 64
+  pub items-most : itemsOf s ≤ 64
+  -- each item's text lies in the table, has the length that its pair says, and reads as an item
+  pub text-within : (k : ℕ) → k < itemsOf s → offsetOf s (headerSize s) k + sizeOf s (headerSize s) k ≤ length s
+  pub text-length : (k : ℕ) → k < itemsOf s → length (itemText s k) ≡ sizeOf s (headerSize s) k
+  pub text-good : (k : ℕ) → k < itemsOf s → itemOk s k ≡ true
+  -- no two items have the same text
+  pub no-twins : (i j : ℕ) → i < itemsOf s → j < itemsOf s → itemText s i ≡ itemText s j → i ≡ j

@@ -1,0 +1,47 @@
+-- The whole ballot table: its pairs, its items, and the first refusal that applies.
+use Prim.Native.Nat.{ℕ}
+use mathlib.Core.Bool.{Bool, not}
+use mathlib.Core.List.{List, [], _∷_}
+use lib.Dec.{eqb}
+use Rattle.base.specs.Bytes.{sameBytes}
+use Rattle.base.specs.Below.{every}
+use Rattle.base.specs.Refusals.{Refusals, first}
+use Rattle.ballot.specs.Header.{headerSize, itemsOf, headerOk}
+use Rattle.ballot.specs.Pairs.{textOf, pairsOk}
+use Rattle.ballot.specs.Item.{readItem, readingNumber}
+
+-- the table's own pairs are right
+unfoldable pub tablePairsOk : List ℕ → Bool
+tablePairsOk s = pairsOk s (headerSize s) (itemsOf s)
+
+-- the text of item k: the part of the table that its pair marks out
+abbrev pub itemText : List ℕ → ℕ → List ℕ
+itemText s k = textOf s (headerSize s) k
+
+-- the text of item k reads as an item
+unfoldable pub itemOk : List ℕ → ℕ → Bool
+itemOk s k = eqb (readingNumber (readItem (itemText s k))) 0
+
+-- every item's text reads as an item
+unfoldable pub itemsOk : List ℕ → Bool
+itemsOk s = every (itemsOf s) (itemOk s)
+
+-- items i and j have different texts
+unfoldable pub differ : List ℕ → ℕ → ℕ → Bool
+differ s j i = not (sameBytes (itemText s i) (itemText s j))
+
+-- no item before item j has its text
+unfoldable pub newAt : List ℕ → ℕ → Bool
+newAt s j = every j (differ s j)
+
+-- no two items are twins, document 01's word for two items whose bytes are the same
+unfoldable pub noTwins : List ℕ → Bool
+noTwins s = every (itemsOf s) (newAt s)
+
+-- the table's refusals, in the order in which they are judged: 1 header, 2 pairs, 3 item, 4 twin
+abbrev pub tableRefusals : List ℕ → Refusals
+tableRefusals s = (1, not (headerOk s)) ∷ (2, not (tablePairsOk s)) ∷ (3, not (itemsOk s)) ∷ (4, not (noTwins s)) ∷ []
+
+-- the first of them that applies, and 0 where none does
+unfoldable pub refusal : List ℕ → ℕ
+refusal s = first (tableRefusals s)

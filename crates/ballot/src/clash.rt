@@ -1,0 +1,124 @@
+// When two items clash: by their kinds, by their texts and by their numbers.
+ghost use mathlib.Core.Path.{_≡_};
+ghost use Prim.Native.Nat.{_<_, _^_};
+ghost use Rattle.ballot.specs.Clash.{isVote, isCancellation, kindsClash, itemsClash, readingsClash};
+ghost use Rattle.ballot.specs.Clash.{clash, clashIn, maskWidth, clashMask};
+use super::item::Item;
+use super::item::Kind;
+use super::item::Reading;
+
+// Whether the kind is a vote.
+fn is_vote(k: Kind) -> bool
+    ensures { λ r. ⌜ r ≡ isVote k ⌝ }
+{
+    match k {
+        Kind::Vote(_) => true,
+        Kind::Audit => false,
+        Kind::Cancellation => false,
+    }
+}
+
+// Whether the kind is a cancellation.
+fn is_cancellation(k: Kind) -> bool
+    ensures { λ r. ⌜ r ≡ isCancellation k ⌝ }
+{
+    match k {
+        Kind::Vote(_) => false,
+        Kind::Audit => false,
+        Kind::Cancellation => true,
+    }
+}
+
+// Whether neither is a cancellation, and at least one is a vote.
+fn kinds_clash(a: Kind, b: Kind) -> bool
+    ensures { λ r. ⌜ r ≡ kindsClash a b ⌝ }
+{
+    if is_cancellation(a) {
+        return false;
+    }
+    if is_cancellation(b) {
+        return false;
+    }
+    if is_vote(a) {
+        return true;
+    }
+    is_vote(b)
+}
+
+// Whether they are of one ballot, with kinds that clash.
+fn items_clash(a: Item, b: Item) -> bool
+    ensures { λ r. ⌜ r ≡ itemsClash a b ⌝ }
+{
+    if a.ballot != b.ballot {
+        return false;
+    }
+    let ka = a.kind;
+    let kb = b.kind;
+    kinds_clash(ka, kb)
+}
+
+// Whether both are items, and these clash.
+fn readings_clash(x: Reading, y: Reading) -> bool
+    ensures { λ r. ⌜ r ≡ readingsClash x y ⌝ }
+{
+    match x {
+        Reading::Good(a) => match y {
+            Reading::Good(b) => items_clash(a, b),
+            Reading::Wrong => false,
+        },
+        Reading::Wrong => false,
+    }
+}
+
+// Whether the items with these texts clash.
+pub fn clashes(a: &[u8], b: &[u8]) -> bool
+    ensures { λ r. ⌜ r ≡ clash (now (a .entry)) (now (b .entry)) ⌝ }
+{
+    if base::same(a, b) {
+        return false;
+    }
+    readings_clash(super::item::read_item(a), super::item::read_item(b))
+}
+
+// Whether items i and j of the table clash.
+pub fn clash_in(table: &[u8], i: u8, j: u8) -> bool
+    ensures { λ r. ⌜ r ≡ clashIn (now (table .entry)) i j ⌝ }
+{
+    clashes(super::item_text(table, i), super::item_text(table, j))
+}
+
+// The number of items that a mask has a bit for.
+fn mask_width(table: &[u8]) -> u8
+    ensures { λ r. ⌜ r ≡ maskWidth (now (table .entry)) ⌝ }
+{
+    let m = super::header::items(table);
+    if m < 64 {
+        return m;
+    }
+    64
+}
+
+// What bit j of a mask is worth.
+fn worth(j: u8) -> u64
+    requires { ⌜ j < 64 ⌝ }
+    ensures { λ r. ⌜ r ≡ 2 ^ j ⌝ }
+{
+    1u64 << j
+}
+
+// The items that clash with item i: bit j is item j.
+pub fn clash_mask(table: &[u8], i: u8) -> u64
+    ensures { λ r. ⌜ r ≡ clashMask (now (table .entry)) i ⌝ }
+{
+    let width = mask_width(table);
+    let mut mask: u64 = 0;
+    let mut j: u8 = 0;
+    while j < width {
+        let item = j;
+        j += 1;
+        if clash_in(table, i, item) {
+            mask += worth(item);
+        }
+    }
+    mask
+}

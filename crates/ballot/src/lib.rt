@@ -1,0 +1,102 @@
+// The ballot table: its header, its pairs and its items, read from lent bytes, and the first refusal of 1 to 4 that applies.
+// An item's text is handed on as the part of the table that it is; nothing is copied, and no byte is changed.
+// It uses the crate base and no other.
+ghost use mathlib.Core.Path.{_≡_};
+ghost use Rattle.ballot.specs.Table.{tablePairsOk, itemText, itemOk, itemsOk, differ, newAt, noTwins, refusal};
+
+pub mod clash; // when two items clash
+pub mod header; // the fields of the header
+pub mod item; // an item, read from its text
+pub mod pairs; // pairs of offset and length, and the texts that they mark out
+pub mod reader; // a reader that stands over the table's bytes
+
+// Whether the table's own pairs are right.
+fn table_pairs_ok(table: &[u8]) -> bool
+    ensures { λ r. ⌜ r ≡ tablePairsOk (now (table .entry)) ⌝ }
+{
+    pairs::pairs_ok(table, header::header_size(table), header::items(table))
+}
+
+// The text of item k, as the part of the table that it is.
+pub fn item_text(table: &[u8], k: u8) -> &[u8]
+    ensures { λ r. ⌜ now r ≡ itemText (now (table .entry)) k ⌝ }
+{
+    pairs::text(table, header::header_size(table), k)
+}
+
+// Whether the text of item k reads as an item.
+fn item_ok(table: &[u8], k: u8) -> bool
+    ensures { λ r. ⌜ r ≡ itemOk (now (table .entry)) k ⌝ }
+{
+    item::reading_number(item::read_item(item_text(table, k))) == 0
+}
+
+// Whether every item's text reads as an item.
+fn items_ok(table: &[u8]) -> bool
+    ensures { λ r. ⌜ r ≡ itemsOk (now (table .entry)) ⌝ }
+{
+    let m = header::items(table);
+    let mut k: u8 = 0;
+    while k < m {
+        if !item_ok(table, k) {
+            return false;
+        }
+        k += 1;
+    }
+    true
+}
+
+// Whether items i and j have different texts.
+fn differs(table: &[u8], j: u8, i: u8) -> bool
+    ensures { λ r. ⌜ r ≡ differ (now (table .entry)) j i ⌝ }
+{
+    !base::same(item_text(table, i), item_text(table, j))
+}
+
+// Whether no item before item j has its text.
+fn new_at(table: &[u8], j: u8) -> bool
+    ensures { λ r. ⌜ r ≡ newAt (now (table .entry)) j ⌝ }
+{
+    let mut i: u8 = 0;
+    while i < j {
+        if !differs(table, j, i) {
+            return false;
+        }
+        i += 1;
+    }
+    true
+}
+
+// Whether no two items are twins.
+fn no_twins(table: &[u8]) -> bool
+    ensures { λ r. ⌜ r ≡ noTwins (now (table .entry)) ⌝ }
+{
+    let m = header::items(table);
+    let mut j: u8 = 0;
+    while j < m {
+        if !new_at(table, j) {
+            return false;
+        }
+        j += 1;
+    }
+    true
+}
+
+// The first refusal that applies, 1 header, 2 pairs, 3 item or 4 twin; 0 where none does.
+pub fn check_table(table: &[u8]) -> u8
+    ensures { λ r. ⌜ r ≡ refusal (now (table .entry)) ⌝ }
+{
+    if !header::header_ok(table) {
+        return 1;
+    }
+    if !table_pairs_ok(table) {
+        return 2;
+    }
+    if !items_ok(table) {
+        return 3;
+    }
+    if !no_twins(table) {
+        return 4;
+    }
+    0
+}
