@@ -1,0 +1,135 @@
+-- The second hand of an item in a period: once an item is held, nothing that clashes with it is handed.
+use Prim.Native.Nat.{ℕ, _<_}
+use mathlib.Core.Bool.{Bool, true, false, _&&_, not}
+use mathlib.Core.List.{List, [], _∷_}
+use mathlib.Core.Path.{_≡_, refl, sym, _∙_, subst}
+use mathlib.Core.Logic.{_⊎_, inl, inr}
+use lib.Dec.{eqb, ltb}
+use borrow.Author.Tests.{eqb-true}
+use Rattle.base.specs.Below.{any}
+use Rattle.base.proofs.Truth.{either, split, is-false, and-i, and-l, and-r}
+use Rattle.base.proofs.Below.{any-at, any-found}
+use Rattle.base.proofs.Sets.{old1, old3, new3, grow3}
+use Rattle.rules.specs.declared.Step.{Step}
+use Rattle.rules.specs.declared.Step.the-variants.{Post, Hand, Sign, Take, Share, Receipt, Close, Fetch, SendHash, Hear, Back, Publish, FalseSignature, FalseShare, FalseHash, FalseBacking, Down, Up}
+use Rattle.rules.specs.Table.{Table, clashing}
+use Rattle.rules.specs.State.{State}
+use Rattle.rules.specs.Rules.{rule, answer, next}
+use Rattle.rules.proofs.Answered.{Clear, answered, judged}
+use Rattle.rules.proofs.Repeat.{repeated}
+use Rattle.edges.specs.Steps.{after}
+
+module _ (T : Table) (rows : ℕ → ℕ → Bool) (x : ℕ) where
+  abbrev clashes : ℕ → ℕ → Bool
+  clashes p y = rows p y && T .clash x y
+
+  -- no item in the rows clashes with x
+  abbrev pub Apart : Type 0
+  Apart = (p y : ℕ) → p < T .periods → y < T .items → rows p y ≡ true → T .clash x y ≡ false
+
+  apart-test : Apart → clashing T rows x ≡ false
+  unfolding clashing
+  apart-test h = is-false _ (λ e. none (any-found (T .periods) (λ p. any (T .items) (clashes p)) e))
+    where
+      none : (p : ℕ) × (p < T .periods) × (any (T .items) (clashes p) ≡ true) → ⊥
+      none (p, l, e) =
+          let (y, m, c) = any-found (T .items) (clashes p) e in
+          split (and-r (rows p y) _ c) (h p y l m (and-l _ (T .clash x y) c))
+
+  test-apart : clashing T rows x ≡ false → Apart
+  unfolding clashing
+  test-apart e p y l m r = is-false _ (λ c. split (any-at (λ p. any (T .items) (clashes p)) p (T .periods) l (any-at (clashes p) y (T .items) m (and-i _ _ r c))) e)
+
+-- x is posted, j holds it in p, and nothing that j holds clashes with it
+pub record Settled (T : Table) (j p x : ℕ) (posted : ℕ → Bool) (held : ℕ → ℕ → ℕ → Bool) : Type 0 where
+  pub is-posted : posted x ≡ true
+  pub is-held : held j p x ≡ true
+  pub apart : Apart T (held j) x
+
+module _ (T : Table) (j p x : ℕ) (sy : (y : ℕ) → T .clash x y ≡ T .clash y x) (in-P : p < T .periods) (in-m : x < T .items) where
+  abbrev Now : State → Type 0
+  Now s = Settled T j p x (s .posted) (s .held)
+
+  -- another hand to j was not of an item that clashes with x
+  hand-settled : (s : State) → Now s → (k y : ℕ) → Clear T s (Hand k y) → Now (rule T s (Hand k y) .effect)
+  unfolding rule
+  hand-settled s I k y c = record {
+    is-posted = I .is-posted;
+    is-held = old3 k (s .current k) y (s .held) j p x (I .is-held);
+    apart = λ q z l m h. grow3 {P = λ i q z. i ≡ j → q < T .periods → z < T .items → T .clash x z ≡ false} k (s .current k) y (s .held)
+        (λ e l m. sy y ∙ test-apart T (s .held k) y (search) p x in-P in-m (subst (λ (i : ℕ). s .held i p x ≡ true) (sym e) (I .is-held)))
+        (λ i q z h e l m. I .apart q z l m (subst (λ (i : ℕ). s .held i q z ≡ true) e h)) j q z h refl l m;
+  }
+
+  step-settled : (s : State) → Now s → (st : Step) → Clear T s st → Now (rule T s st .effect)
+  unfolding rule
+  step-settled s I (Post y) c = record { is-posted = old1 y (s .posted) x (I .is-posted); is-held = I .is-held; apart = I .apart }
+  step-settled s I (Hand k y) c = hand-settled s I k y c
+  step-settled s I (Sign k y) c = I
+  step-settled s I (Take k l q y) c = I
+  step-settled s I (Share k y) c = I
+  step-settled s I (Receipt q y) c = I
+  step-settled s I (Close k) c = I
+  step-settled s I (Fetch k l q) c = I
+  step-settled s I (SendHash k q) c = I
+  step-settled s I (Hear k e) c = I
+  step-settled s I (Back k) c = I
+  step-settled s I (Publish e) c = I
+  step-settled s I (FalseSignature k q y) c = I
+  step-settled s I (FalseShare k q y) c = I
+  step-settled s I (FalseHash k q B) c = I
+  step-settled s I (FalseBacking k q B) c = I
+  step-settled s I (Down k) c = I
+  step-settled s I (Up k) c = I
+
+  next-settled : (s : State) → Now s → (st : Step) → Now (next T s st)
+  unfolding next
+  next-settled s I st = go (either (eqb (answer T s st) 0))
+    where
+      go : (eqb (answer T s st) 0 ≡ true) ⊎ (eqb (answer T s st) 0 ≡ false) → Now (next T s st)
+      go (inl e) = rw e (step-settled s I st (answered T s st (eqb-true (answer T s st) 0 e)))
+      go (inr e) = rw e I
+
+  after-settled : (s : State) → Now s → (steps : List Step) → Now (after T s steps)
+  after-settled s I [] = I
+  after-settled s I (st ∷ later) = after-settled (next T s st) (next-settled s I st) later
+
+module _ (T : Table) (s : State) (j x : ℕ) (ir : T .clash x x ≡ false) (taken : answer T s (Hand j x) ≡ 0) where
+  abbrev clear : Clear T s (Hand j x)
+  clear = answered T s (Hand j x) taken
+
+  -- the state after the first hand
+  done : next T s (Hand j x) ≡ rule T s (Hand j x) .effect
+  unfolding next
+  done = rw taken
+
+  settled : Settled T j (s .current j) x (rule T s (Hand j x) .effect .posted) (rule T s (Hand j x) .effect .held)
+  unfolding rule
+  settled =
+      let c = clear in record {
+        is-posted = search judged;
+        is-held = new3 j (s .current j) x (s .held);
+        apart = λ q z l m h. grow3 {P = λ i q z. i ≡ j → q < T .periods → z < T .items → T .clash x z ≡ false} j (s .current j) x (s .held)
+            (λ e l m. ir) (λ i q z h e l m. test-apart T (s .held j) x (search) q z l m (subst (λ (i : ℕ). s .held i q z ≡ true) e h)) j q z h refl l m;
+      }
+
+  -- where x is settled for a peer that is up and in the period, a hand answers 0 and changes nothing
+  again : (u : State) → Settled T j (s .current j) x (u .posted) (u .held) → u .down j ≡ false → u .current j ≡ s .current j → (answer T u (Hand j x) ≡ 0) × (next T u (Hand j x) ≡ u)
+  unfolding rule
+  again u I d p =
+      let c = clear in
+      let in-period : not (ltb (u .current j) (T .periods)) ≡ false = rw p (search) in
+      let known : not (u .posted x) ≡ false = rw (I .is-posted) in
+      let no-clash = apart-test T (u .held j) x (I .apart) in
+      repeated T u (Hand j x) (search) (rw p (I .is-held))
+
+  pub second-hand : let u = next T s (Hand j x) in (answer T u (Hand j x) ≡ 0) × (next T u (Hand j x) ≡ u)
+  unfolding rule
+  second-hand = let c = clear in rw done (again (rule T s (Hand j x) .effect) settled (search) refl)
+
+  pub second-hand-later : ((y : ℕ) → T .clash x y ≡ T .clash y x) → (between : List Step) → let u = after T (next T s (Hand j x)) between in
+      u .down j ≡ false → u .current j ≡ s .current j → (answer T u (Hand j x) ≡ 0) × (next T u (Hand j x) ≡ u)
+  unfolding rule
+  second-hand-later sy between d p =
+      let c = clear in
+      again (after T (next T s (Hand j x)) between) (after-settled T j (s .current j) x sy (search judged) (search judged) (next T s (Hand j x)) (rw done settled) between) d p

@@ -1,0 +1,12 @@
+pub mod Table
+pub mod Premise
+pub mod Worked
+pub mod Tests
+pub mod Hand
+pub mod Steps
+pub mod Stored
+pub mod Keys
+pub mod Exact
+pub mod Fields
+pub mod ByRow
+pub mod Edges

@@ -1,0 +1,10 @@
+pub mod Tables
+pub mod Marked
+pub mod Cases
+pub mod Worked
+pub mod Premise
+pub mod Steps
+pub mod Exact
+pub mod Fields
+pub mod ByRow
+pub mod Edges

@@ -1,0 +1,39 @@
+-- Small ballot tables, of which the cases are made.
+use Prim.Native.Nat.{ℕ}
+use mathlib.Core.List.{List, [], _∷_, _++_}
+use lib.ListN.{length}
+
+-- n peers with threshold t, no honest peer, one period and no items
+abbrev pub empty : ℕ → ℕ → List ℕ
+empty n t = n ∷ t ∷ 0 ∷ 0 ∷ 1 ∷ 0 ∷ []
+
+-- one peer, one period and the one item with this text
+abbrev pub single : List ℕ → List ℕ
+single text = 1 ∷ 1 ∷ 0 ∷ 0 ∷ 1 ∷ 1 ∷ 0 ∷ 10 ∷ 0 ∷ length text ∷ text
+
+-- an item of ballot 7: its kind byte, and the bytes after it
+abbrev pub item : ℕ → List ℕ → List ℕ
+item kind rest = 0 ∷ 0 ∷ 0 ∷ 7 ∷ kind ∷ rest
+
+abbrev pub vote : List ℕ → List ℕ
+vote preferences = item 1 preferences
+
+abbrev pub audit : List ℕ
+audit = item 2 []
+
+abbrev pub cancellation : List ℕ
+cancellation = item 3 []
+
+-- one peer, one period and two items with texts of five bytes
+abbrev pub twoFives : List ℕ → List ℕ
+twoFives texts = 1 ∷ 1 ∷ 0 ∷ 0 ∷ 1 ∷ 2 ∷ 0 ∷ 14 ∷ 0 ∷ 5 ∷ 0 ∷ 19 ∷ 0 ∷ 5 ∷ texts
+
+-- one peer, one period and three items of ballot 7: a vote, an audit and a cancellation
+abbrev pub three : List ℕ
+three =
+    1 ∷ 1 ∷ 0 ∷ 0 ∷ 1 ∷ 3 ∷ 0 ∷ 18 ∷ 0 ∷ 6 ∷ 0 ∷ 24 ∷ 0 ∷ 5 ∷ 0 ∷ 29 ∷ 0 ∷ 5 ∷
+    (vote (0 ∷ []) ++ (audit ++ cancellation))
+
+-- the table of case R
+abbrev pub caseR : List ℕ
+caseR = 1 ∷ 1 ∷ 0 ∷ 1 ∷ 1 ∷ 1 ∷ 0 ∷ 10 ∷ 0 ∷ 5 ∷ 0 ∷ 0 ∷ 0 ∷ 7 ∷ 2 ∷ []

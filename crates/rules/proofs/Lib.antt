@@ -1,0 +1,17 @@
+pub mod Form
+pub mod Answered
+pub mod Rows
+pub mod Bag
+pub mod Quorum
+pub mod Invariant
+pub mod Consequences
+pub mod Beside
+pub mod Keep
+pub mod Runs
+pub mod Valid
+pub mod Always
+pub mod Boards
+pub mod Demand3
+pub mod Repeat
+pub mod Outside
+pub mod Grow

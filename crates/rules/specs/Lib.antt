@@ -1,0 +1,11 @@
+pub mod Table
+pub mod Bag
+pub mod State
+pub mod Form
+pub mod Rules
+pub mod Ideal
+pub mod Run
+pub mod Repeat
+pub mod Outside
+pub mod Valid
+pub mod Demand3

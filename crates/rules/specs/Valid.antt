@@ -1,0 +1,67 @@
+-- A valid state: what row 14 asks of the contents. Every set, counter, flag and entry is within the table's ranges, c is at most p, no two entries are the same, and what is heard is a hash entry.
+use Prim.Native.Nat.{ℕ, _^_, _≤_, _<_}
+use mathlib.Core.Bool.{Bool, true, _&&_, not}
+use mathlib.Core.List.{List, [], _∷_}
+use mathlib.Core.Path.{_≡_}
+use lib.ListN.{length}
+use Rattle.rules.specs.declared.Entry.{Entry}
+use Rattle.rules.specs.declared.Entry.the-variants.{Hash, Backing, Board}
+use Rattle.rules.specs.Table.{Table}
+use Rattle.rules.specs.Bag.{isIn, capacity}
+use Rattle.rules.specs.State.{State}
+
+-- no two entries are the same
+unfoldable pub different : List Entry → Bool
+different [] = true
+different (a ∷ bag) = not (isIn a bag) && different bag
+
+module _ (T : Table) where
+  abbrev pub Peer : ℕ → Type 0
+  Peer k = (1 ≤ k) × (k ≤ T .n)
+
+  -- a period and an item of the table, and a peer of it
+  abbrev pub Cell : ℕ → ℕ → Type 0
+  Cell p x = (p < T .periods) × (x < T .items)
+
+  abbrev pub Spot : ℕ → ℕ → ℕ → Type 0
+  Spot k p x = Peer k × Cell p x
+
+  -- a period of the table, and a board of its items
+  abbrev pub Sheet : ℕ → ℕ → Type 0
+  Sheet p B = (p < T .periods) × (B < 2 ^ T .items)
+
+  abbrev pub InTable : Entry → Type 0
+  InTable (Hash k p B) = Peer k × Sheet p B
+  InTable (Backing k p B) = Peer k × Sheet p B
+  InTable (Board p B) = Sheet p B
+
+  pub record SetsIn (posted : ℕ → Bool) (signed shared : ℕ → ℕ → ℕ → Bool) (receipted : ℕ → ℕ → Bool) (held : ℕ → ℕ → ℕ → Bool) (db : ℕ → ℕ → ℕ → ℕ → Bool) : Type 0 where
+    pub posts : (x : ℕ) → posted x ≡ true → x < T .items
+    pub signs : (k p x : ℕ) → signed k p x ≡ true → Spot k p x
+    pub shares : (k p x : ℕ) → shared k p x ≡ true → Spot k p x
+    pub receipts : (p x : ℕ) → receipted p x ≡ true → Cell p x
+    pub holds : (j p x : ℕ) → held j p x ≡ true → Spot j p x
+    pub knows : (j p x k : ℕ) → db j p x k ≡ true → Spot j p x × Peer k
+
+  pub record CountersIn (current toBack : ℕ → ℕ) : Type 0 where
+    pub opens : (j : ℕ) → current j ≤ T .periods
+    pub behind : (j : ℕ) → toBack j ≤ current j
+    pub peers : (j : ℕ) → 0 < current j → Peer j
+
+  pub record BagIn (bag : List Entry) : Type 0 where
+    pub size : length bag ≤ capacity
+    pub entries : (e : Entry) → isIn e bag ≡ true → InTable e
+    pub apart : different bag ≡ true
+
+  abbrev pub DownIn : (ℕ → Bool) → Type 0
+  DownIn down = (j : ℕ) → down j ≡ true → Peer j
+
+  abbrev pub HeardIn : (ℕ → ℕ → ℕ → ℕ → Bool) → List Entry → Type 0
+  HeardIn heard bag = (j k p B : ℕ) → heard j k p B ≡ true → Peer j × (isIn (Hash k p B) bag ≡ true)
+
+  pub record Valid (s : State) : Type 0 where
+    pub sets : SetsIn (s .posted) (s .signed) (s .shared) (s .receipted) (s .held) (s .db)
+    pub counters : CountersIn (s .current) (s .toBack)
+    pub down : DownIn (s .down)
+    pub bag : BagIn (s .bag)
+    pub heard : HeardIn (s .heard) (s .bag)
