@@ -1,0 +1,5 @@
+pub mod Row
+pub mod Number
+pub mod Joined
+pub mod Loops
+pub mod Count

@@ -1,0 +1,66 @@
+-- From the highest byte down: v is the number in the bytes passed.
+use mathlib.Core.Path.{_≡_, ap, _∙_}
+use Prim.Native.Nat.{ℕ, _+_, _*_, _≤_, _-_}
+use native.Mathlib.Omega.{arith}
+use borrow.Author.Needs.{needs}
+use Rattle.bits.specs.Number.{num}
+use Rattle.bits.proofs.Loops.{load-none, load-more, load-room, load-end}
+use Rattle.bits.proofs.load.Statement.{statement}
+use Rattle.bits.proofs.load.Tie as tie
+
+abbrev Inv-loop : tie.InvT-loop
+Inv-loop s o n v₀ i₀ v i = (i ≤ n) × (v ≡ num (n - i) s (o + i))
+
+abbrev μ-loop : tie.MeasureT-loop
+μ-loop s o n v₀ i₀ v i = i
+
+loop-holds : tie.Need-loop-holds Inv-loop μ-loop
+loop-holds c = (search needs, load-none _ _ _)
+
+sub-i : tie.Need-sub-i Inv-loop μ-loop
+sub-i c = search needs
+
+mul-v : tie.Need-mul-v Inv-loop μ-loop
+mul-v c = let a = c .before .before in
+    omega (arith, load-room _ _ _ _ _ (λ k. a .shared-slice-known .given k .fits) (a .before .pre .0) (c .loop-test .taken) (c .before .loop .inv .1))
+
+add-wide64 : tie.Need-add-wide64 Inv-loop μ-loop
+add-wide64 c = search needs
+
+shared-slice-read-wide64 : tie.Need-shared-slice-read-wide64 Inv-loop μ-loop
+shared-slice-read-wide64 c = search needs
+
+wide64-requires : tie.Need-wide64-requires Inv-loop μ-loop
+wide64-requires c κs = search needs
+
+add-v : tie.Need-add-v Inv-loop μ-loop
+add-v c = let t = c .before .before in
+    let a = t .before .before in
+    omega (arith, load-room _ _ _ _ _ (λ k. a .shared-slice-known .given k .fits) (a .before .pre .0) (t .loop-test .taken) (t .before .loop .inv .1))
+
+loop-less : tie.Need-loop-less Inv-loop μ-loop
+loop-less c = search needs
+
+loop-again : tie.Need-loop-again Inv-loop μ-loop
+loop-again c = let l = c .before .before .before .loop in
+    (search needs, ap (λ (x : ℕ). l .v * 256 + x) (c .wide64 .ensures .0) ∙ load-more _ _ _ _ _ (c .before .before .loop-test .taken) (l .inv .0) (l .inv .1))
+
+returns : tie.Need-returns Inv-loop μ-loop
+returns c = load-end _ _ _ _ _ (c .loop-test .left) (c .before .loop .inv .1)
+
+pub load-spec : {M : Type 1} → statement M
+load-spec =
+    tie.close
+    (tie.spec
+    Inv-loop
+    μ-loop
+    loop-holds
+    sub-i
+    mul-v
+    add-wide64
+    shared-slice-read-wide64
+    wide64-requires
+    add-v
+    loop-less
+    loop-again
+    returns)

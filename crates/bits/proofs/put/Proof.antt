@@ -1,0 +1,30 @@
+-- A byte joined with 1 shifted by a % 8 is the byte with that bit set.
+use Prim.Native.Nat.{_%_}
+use native.Mathlib.Omega.{arith}
+use Rattle.bits.specs.Row.{putBit}
+use Rattle.bits.proofs.Row.{shl-one}
+use borrow.Author.Needs.{needs}
+use Rattle.bits.proofs.put.Statement.{statement}
+use Rattle.bits.proofs.put.Tie as tie
+
+slice-read-s : tie.Need-slice-read-s
+slice-read-s c = search needs
+
+cast-s : tie.Need-cast-s
+cast-s c = search needs
+
+shl-s : tie.Need-shl-s
+shl-s c = search needs
+
+slice-write-s : tie.Need-slice-write-s
+slice-write-s c = search needs
+
+same-length : tie.Need-same-length
+same-length c = search needs
+
+returns : tie.Need-returns
+unfolding putBit
+returns c = rw (shl-one 8 (c .before .args .a % 8) (omega arith))
+
+pub put-spec : {M : Type 1} → statement M
+put-spec = tie.close (tie.spec slice-read-s cast-s shl-s slice-write-s same-length returns)

@@ -1,0 +1,86 @@
+// A slice of bytes as a row of bits, and as numbers of several bytes, low byte first.
+ghost use mathlib.Core.Path.{_≡_};
+ghost use Prim.Native.Nat.{_+_, _/_, _^_, _<_, _≤_};
+ghost use lib.ListN.{length};
+ghost use Rattle.bits.specs.Row.{bitAt, putBit};
+ghost use Rattle.bits.specs.Number.{num, stored, joined};
+
+// Bit a of the row.
+pub fn has(s: &[u8], a: usize) -> bool
+    requires { ⌜ a / 8 < length (now s) ⌝ }
+    ensures { λ r. ⌜ r ≡ bitAt (now (s .entry)) a ⌝ }
+{
+    (s[a / 8] >> (a % 8)) % 2 == 1
+}
+
+// Sets bit a.
+pub fn put(s: &mut [u8], a: usize)
+    requires { ⌜ a / 8 < length (now s) ⌝ }
+    ensures { λ _. ⌜ now (s .exit) ≡ putBit (now (s .entry)) a ⌝ }
+{
+    let at = a / 8;
+    s[at] = s[at] | 1 << (a % 8);
+}
+
+fn wide16(x: u8) -> u16
+    ensures { λ r. ⌜ (r ≡ x) × (r < 256) ⌝ }
+{
+    x as u16
+}
+
+// The number in the two bytes from o on.
+pub fn word(s: &[u8], o: usize) -> u16
+    requires { ⌜ o + 2 ≤ length (now s) ⌝ }
+    ensures { λ r. ⌜ r ≡ num 2 (now (s .entry)) o ⌝ }
+{
+    wide16(s[o]) + 256 * wide16(s[o + 1])
+}
+
+fn wide64(x: u8) -> u64
+    ensures { λ r. ⌜ (r ≡ x) × (r < 256) ⌝ }
+{
+    x as u64
+}
+
+// The number in the n bytes from o on.
+pub fn load(s: &[u8], o: usize, n: usize) -> u64
+    requires { ⌜ (n ≤ 8) × (o + n ≤ length (now s)) ⌝ }
+    ensures { λ r. ⌜ r ≡ num n (now (s .entry)) o ⌝ }
+{
+    let mut v: u64 = 0;
+    let mut i = n;
+    while 0 < i {
+        i -= 1;
+        v = v * 256 + wide64(s[o + i]);
+    }
+    v
+}
+
+// Stores the n low bytes of v from o on.
+pub fn store(s: &mut [u8], o: usize, n: usize, v: u64)
+    requires { ⌜ (n ≤ 8) × (o + n ≤ length (now s)) ⌝ }
+    ensures { λ _. ⌜ now (s .exit) ≡ stored n (now (s .entry)) o v ⌝ }
+{
+    let mut w = v;
+    let mut i = 0;
+    while i < n {
+        s[o + i] = (w % 256) as u8;
+        w = w / 256;
+        i += 1;
+    }
+}
+
+fn long(x: u16) -> u64
+    ensures { λ r. ⌜ (r ≡ x) × (r < 2 ^ 16) ⌝ }
+{
+    x as u64
+}
+
+// Sets, in the two bytes from o on, the bits of v.
+pub fn join(s: &mut [u8], o: usize, v: u16)
+    requires { ⌜ o + 2 ≤ length (now s) ⌝ }
+    ensures { λ _. ⌜ (now (s .exit) ≡ joined 2 (now (s .entry)) o v) × (v < 2 ^ 16) ⌝ }
+{
+    let both = word(s, o) | v;
+    store(s, o, 2, long(both));
+}

@@ -1,0 +1,69 @@
+-- The sets of the items passed are added.
+use Prim.Native.Nat.{_≤_, _-_}
+use native.Mathlib.Omega.{arith}
+use mathlib.Core.Path.{_≡_, refl, _∙_}
+use lib.ListN.{length}
+use borrow.Author.Needs.{needs}
+use Rattle.state.specs.Layout.{items}
+use Rattle.state.specs.Contents.{contents, Holds, adding}
+use Rattle.state.specs.Sets.{knownTo}
+use Rattle.database.specs.Database.{onRow}
+use Rattle.database.proofs.Rows.{row-none, row-more, row-end}
+use Rattle.database.proofs.add_row.Statement.{statement}
+use Rattle.database.proofs.add_row.Tie as tie
+
+abbrev Inv-loop : tie.InvT-loop
+Inv-loop s₀ j p sets i₀ s i = (i ≤ items) × ((length s ≡ length s₀) × Holds s (adding (knownTo j p (onRow sets i)) (contents s₀)))
+
+abbrev μ-loop : tie.MeasureT-loop
+μ-loop s₀ j p sets i₀ s i = items - i
+
+loop-holds : tie.Need-loop-holds Inv-loop μ-loop
+loop-holds c = (omega arith, (refl, row-none _ _ _ _ (c .before .pre .0)))
+
+cast-add-signers : tie.Need-cast-add-signers Inv-loop μ-loop
+cast-add-signers c = search needs
+
+mul-add-signers : tie.Need-mul-add-signers Inv-loop μ-loop
+mul-add-signers c = search needs
+
+array-copy-out-add-signers : tie.Need-array-copy-out-add-signers Inv-loop μ-loop
+array-copy-out-add-signers c = search needs
+
+add-signers-requires : tie.Need-add-signers-requires Inv-loop μ-loop
+add-signers-requires c κs = let l = c .before .before .before in
+    let row = l .before .before .pre .1 in
+    (l .loop .inv .1 .1 .canon, (row .0, (row .1, c .before .before .loop-test .taken)))
+
+add-i : tie.Need-add-i Inv-loop μ-loop
+add-i c = search needs
+
+loop-less : tie.Need-loop-less Inv-loop μ-loop
+loop-less c = search needs
+
+loop-again : tie.Need-loop-again Inv-loop μ-loop
+loop-again c = let l = c .before .before .before .before .before .before .loop .inv .1 in
+    (omega arith, (c .before .before .add-signers .kept .0 ∙ l .0, row-more _ _ _ _ _ _ _ (l .1) (c .before .before .add-signers .ensures)))
+
+same-length : tie.Need-same-length Inv-loop μ-loop
+same-length c = search needs
+
+returns : tie.Need-returns Inv-loop μ-loop
+returns c = let l = c .before .loop .inv in row-end _ _ _ _ _ _ (l .0) (c .loop-test .left) (l .1 .1)
+
+pub add-row-spec : {M : Type 1} → statement M
+add-row-spec =
+    tie.close
+    (tie.spec
+    Inv-loop
+    μ-loop
+    loop-holds
+    cast-add-signers
+    mul-add-signers
+    array-copy-out-add-signers
+    add-signers-requires
+    add-i
+    loop-less
+    loop-again
+    same-length
+    returns)

@@ -1,0 +1,22 @@
+-- By `fetch-done`: the other's row has what the other's database has.
+use Rattle.database.proofs.Rows.{fetch-done}
+use borrow.Author.Needs.{needs}
+use Rattle.database.proofs.fetch.Statement.{statement}
+use Rattle.database.proofs.fetch.Tie as tie
+
+row-requires : tie.Need-row-requires
+row-requires c κs = search needs
+
+add-row-requires : tie.Need-add-row-requires
+add-row-requires c κs = search needs
+
+same-length : tie.Need-same-length
+same-length c = search needs
+
+returns : tie.Need-returns
+returns c = let r = c .before .before .before .before in
+    let a = r .before .before .before .args in
+    fetch-done (a .s .now) (a .other) (a .p) _ (a .j) _ (r .row .ensures) (c .before .before .add-row .ensures)
+
+pub fetch-spec : {M : Type 1} → statement M
+fetch-spec = tie.close (tie.spec row-requires add-row-requires same-length returns)

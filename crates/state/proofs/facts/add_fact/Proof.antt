@@ -1,0 +1,23 @@
+-- By `put-done`: the bit set is that of the fact.
+use Rattle.state.proofs.Ranges.{within-range}
+use Rattle.state.proofs.Frame.{place-inside}
+use Rattle.state.proofs.Holds.{put-done}
+use borrow.Author.Needs.{needs}
+use Rattle.state.proofs.facts.add_fact.Statement.{statement}
+use Rattle.state.proofs.facts.add_fact.Tie as tie
+
+place-of-requires : tie.Need-place-of-requires
+place-of-requires c κs = search needs
+
+put-requires : tie.Need-put-requires
+put-requires c κs = let a = c .before .before .before in place-inside _ (a .args .f) _ (a .pre .0) (within-range (a .args .f) (a .pre .1)) (c .place-of .ensures)
+
+same-length : tie.Need-same-length
+same-length c = search needs
+
+returns : tie.Need-returns
+returns c = let a = c .before .before .before .before .before .before in
+    put-done _ _ (a .args .f) _ (a .pre .0) (a .pre .1) (c .before .before .before .place-of .ensures) (c .before .before .put .ensures)
+
+pub add-fact-spec : {M : Type 1} → statement M
+add-fact-spec = tie.close (tie.spec place-of-requires put-requires same-length returns)

@@ -1,0 +1,23 @@
+-- A peer's number is its byte; there is none of anyone else.
+use mathlib.Core.Path.{sym, _∙_}
+use Rattle.state.specs.declared.Number.the-variants.{NextOf}
+use Rattle.state.proofs.Ranges.{peer-within}
+use Rattle.state.proofs.Frame.{number-none}
+use borrow.Author.Needs.{needs}
+use Rattle.state.proofs.numbers.next_of.Statement.{statement}
+use Rattle.state.proofs.numbers.next_of.Tie as tie
+
+is-peer-requires : tie.Need-is-peer-requires
+is-peer-requires c κs = search needs
+
+value-of-requires : tie.Need-value-of-requires
+value-of-requires c κs = (c .before .before .before .pre, peer-within _ (sym (c .before .is-peer .ensures) ∙ c .if1 .taken))
+
+returns : tie.Need-returns
+returns c = search needs
+
+returns-2 : tie.Need-returns-2
+returns-2 c = let a = c .before .before .before .args in sym (number-none (a .s .now) (NextOf (a .j)) (sym (c .before .is-peer .ensures) ∙ c .if1 .left))
+
+pub next-of-spec : {M : Type 1} → statement M
+next-of-spec = tie.close (tie.spec is-peer-requires value-of-requires returns returns-2)

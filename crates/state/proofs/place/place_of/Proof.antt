@@ -1,0 +1,165 @@
+-- Each arm is the clause of `place` for its kind; `Within` gives each call what it asks.
+use native.Mathlib.Omega.{arith}
+use mathlib.Core.Path.{ap, subst}
+use Rattle.state.specs.Facts.{Within}
+use Rattle.state.specs.Places.{place}
+use borrow.Author.Needs.{needs}
+use Rattle.state.proofs.place.place_of.Statement.{statement}
+use Rattle.state.proofs.place.place_of.Tie as tie
+
+enum-known-f : tie.Need-enum-known-f
+enum-known-f c = search needs
+
+mul-result : tie.Need-mul-result
+mul-result c = search needs
+
+wide-requires : tie.Need-wide-requires
+wide-requires c κs = search needs
+
+add-result : tie.Need-add-result
+add-result c = search needs
+
+enum-known-f-2 : tie.Need-enum-known-f-2
+enum-known-f-2 c = search needs
+
+mul-result-2 : tie.Need-mul-result-2
+mul-result-2 c = search needs
+
+cell-of-requires : tie.Need-cell-of-requires
+cell-of-requires c κs = subst Within (c .before .f2 .given .1) (c .before .before .before .pre) .1
+
+peer-bit-requires : tie.Need-peer-bit-requires
+peer-bit-requires c κs = (omega (arith, c .cell-of .ensures), subst Within (c .before .before .f2 .given .1) (c .before .before .before .before .pre) .0)
+
+add-result-2 : tie.Need-add-result-2
+add-result-2 c = search needs
+
+enum-known-f-3 : tie.Need-enum-known-f-3
+enum-known-f-3 c = search needs
+
+mul-result-3 : tie.Need-mul-result-3
+mul-result-3 c = search needs
+
+cell-of-requires-2 : tie.Need-cell-of-requires-2
+cell-of-requires-2 c κs = subst Within (c .before .f3 .given .1) (c .before .before .before .pre) .1
+
+peer-bit-requires-2 : tie.Need-peer-bit-requires-2
+peer-bit-requires-2 c κs = (omega (arith, c .cell-of2 .ensures), subst Within (c .before .before .f3 .given .1) (c .before .before .before .before .pre) .0)
+
+add-result-3 : tie.Need-add-result-3
+add-result-3 c = search needs
+
+enum-known-f-4 : tie.Need-enum-known-f-4
+enum-known-f-4 c = search needs
+
+mul-result-4 : tie.Need-mul-result-4
+mul-result-4 c = search needs
+
+cell-of-requires-3 : tie.Need-cell-of-requires-3
+cell-of-requires-3 c κs = subst Within (c .before .f4 .given .1) (c .before .before .before .pre)
+
+add-result-4 : tie.Need-add-result-4
+add-result-4 c = search needs
+
+enum-known-f-5 : tie.Need-enum-known-f-5
+enum-known-f-5 c = search needs
+
+mul-result-5 : tie.Need-mul-result-5
+mul-result-5 c = search needs
+
+spot-of-requires : tie.Need-spot-of-requires
+spot-of-requires c κs = subst Within (c .before .f5 .given .1) (c .before .before .before .pre)
+
+add-result-5 : tie.Need-add-result-5
+add-result-5 c = search needs
+
+enum-known-f-6 : tie.Need-enum-known-f-6
+enum-known-f-6 c = search needs
+
+mul-result-6 : tie.Need-mul-result-6
+mul-result-6 c = search needs
+
+spot-of-requires-2 : tie.Need-spot-of-requires-2
+spot-of-requires-2 c κs = let w = subst Within (c .before .f6 .given .1) (c .before .before .before .pre) in (w .0, w .1 .1)
+
+peer-bit-requires-3 : tie.Need-peer-bit-requires-3
+peer-bit-requires-3 c κs = (omega (arith, c .spot-of2 .ensures), subst Within (c .before .before .f6 .given .1) (c .before .before .before .before .pre) .1 .0)
+
+add-result-6 : tie.Need-add-result-6
+add-result-6 c = search needs
+
+enum-known-f-7 : tie.Need-enum-known-f-7
+enum-known-f-7 c = search needs
+
+mul-result-7 : tie.Need-mul-result-7
+mul-result-7 c = search needs
+
+heard-by-requires : tie.Need-heard-by-requires
+heard-by-requires c κs = subst Within (c .before .f7 .given .1) (c .before .before .before .pre)
+
+add-result-7 : tie.Need-add-result-7
+add-result-7 c = search needs
+
+returns : tie.Need-returns
+returns c = omega (arith, c .wide .ensures, ap place (c .before .before .f .given .1))
+
+returns-2 : tie.Need-returns-2
+returns-2 c = omega (arith, c .peer-bit .ensures, c .before .cell-of .ensures, ap place (c .before .before .before .f2 .given .1))
+
+returns-3 : tie.Need-returns-3
+returns-3 c = omega (arith, c .peer-bit2 .ensures, c .before .cell-of2 .ensures, ap place (c .before .before .before .f3 .given .1))
+
+returns-4 : tie.Need-returns-4
+returns-4 c = omega (arith, c .cell-of3 .ensures, ap place (c .before .before .f4 .given .1))
+
+returns-5 : tie.Need-returns-5
+returns-5 c = omega (arith, c .spot-of .ensures, ap place (c .before .before .f5 .given .1))
+
+returns-6 : tie.Need-returns-6
+returns-6 c = omega (arith, c .peer-bit3 .ensures, c .before .spot-of2 .ensures, ap place (c .before .before .before .f6 .given .1))
+
+returns-7 : tie.Need-returns-7
+returns-7 c = omega (arith, c .heard-by .ensures, ap place (c .before .before .f7 .given .1))
+
+pub place-of-spec : {M : Type 1} → statement M
+place-of-spec =
+    tie.close
+    (tie.spec
+    enum-known-f
+    mul-result
+    wide-requires
+    add-result
+    enum-known-f-2
+    mul-result-2
+    cell-of-requires
+    peer-bit-requires
+    add-result-2
+    enum-known-f-3
+    mul-result-3
+    cell-of-requires-2
+    peer-bit-requires-2
+    add-result-3
+    enum-known-f-4
+    mul-result-4
+    cell-of-requires-3
+    add-result-4
+    enum-known-f-5
+    mul-result-5
+    spot-of-requires
+    add-result-5
+    enum-known-f-6
+    mul-result-6
+    spot-of-requires-2
+    peer-bit-requires-3
+    add-result-6
+    enum-known-f-7
+    mul-result-7
+    heard-by-requires
+    add-result-7
+    returns
+    returns-2
+    returns-3
+    returns-4
+    returns-5
+    returns-6
+    returns-7)

@@ -1,0 +1,10 @@
+pub mod Tab
+pub mod Layout
+pub mod Facts
+pub mod Places
+pub mod Numbers
+pub mod Entries
+pub mod Contents
+pub mod Bag
+pub mod Encode
+pub mod Sets

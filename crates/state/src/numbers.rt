@@ -1,0 +1,58 @@
+// The numbers of a peer: read, and stored.
+ghost use mathlib.Core.Path.{_≡_};
+ghost use Rattle.state.specs.declared.Number.the-variants.{OpenOf, NextOf, DownOf};
+ghost use Rattle.state.specs.Facts.{Peer};
+ghost use Rattle.state.specs.Numbers.{peerOf};
+ghost use Rattle.state.specs.Contents.{contents, Canon, Holds, store};
+use crate::Number;
+use crate::place::slot_of;
+use crate::range::is_peer;
+
+fn value_of(s: &[u8], n: Number) -> u8
+    requires { ⌜ Canon (now s) × Peer (peerOf n) ⌝ }
+    ensures { λ r. ⌜ r ≡ contents (now (s .entry)) .number n ⌝ }
+{
+    s[slot_of(n)]
+}
+
+// Peer j's open period.
+pub fn open_of(s: &[u8], j: u8) -> u8
+    requires { ⌜ Canon (now s) ⌝ }
+    ensures { λ r. ⌜ r ≡ contents (now (s .entry)) .number (OpenOf j) ⌝ }
+{
+    if is_peer(j) {
+        return value_of(s, Number::OpenOf(j));
+    }
+    0
+}
+
+// The next period that peer j is to back.
+pub fn next_of(s: &[u8], j: u8) -> u8
+    requires { ⌜ Canon (now s) ⌝ }
+    ensures { λ r. ⌜ r ≡ contents (now (s .entry)) .number (NextOf j) ⌝ }
+{
+    if is_peer(j) {
+        return value_of(s, Number::NextOf(j));
+    }
+    0
+}
+
+// 1 where peer j is down, 0 where it is up.
+pub fn down_of(s: &[u8], j: u8) -> u8
+    requires { ⌜ Canon (now s) ⌝ }
+    ensures { λ r. ⌜ r ≡ contents (now (s .entry)) .number (DownOf j) ⌝ }
+{
+    if is_peer(j) {
+        return value_of(s, Number::DownOf(j));
+    }
+    0
+}
+
+// Gives the number the value v.
+pub fn set_value(s: &mut [u8], n: Number, v: u8)
+    requires { ⌜ Canon (now s) × Peer (peerOf n) ⌝ }
+    ensures { λ _. ⌜ Holds (now (s .exit)) (store n v (contents (now (s .entry)))) ⌝ }
+{
+    let at = slot_of(n);
+    s[at] = v;
+}

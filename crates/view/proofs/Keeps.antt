@@ -1,0 +1,90 @@
+-- Good contents stay good.
+use Prim.Native.Nat.{ℕ, zero, suc, _<_}
+use native.Mathlib.Omega.{arith}
+use mathlib.Core.Bool.{Bool, true, false, cond, _&&_, _||_}
+use mathlib.Core.List.{List, [], _∷_, _++_}
+use mathlib.Core.Path.{_≡_, refl, sym, subst}
+use mathlib.Core.Logic.{_⊎_, inl, inr}
+use lib.Dec.{eqb}
+use borrow.Author.Tests.{eqb-true}
+use Rattle.base.proofs.Truth.{false-true, either, and-r}
+use Rattle.rules.specs.declared.Entry.{Entry}
+use Rattle.rules.specs.declared.Step.{Step}
+use Rattle.rules.specs.declared.Step.the-variants.{Post, Hand, Sign, Take, Share, Receipt, Close, Fetch, SendHash, Hear, Back, Publish, FalseSignature, FalseShare, FalseHash, FalseBacking, Down, Up}
+use Rattle.rules.specs.Table.{Table}
+use Rattle.rules.specs.Bag.{isIn, isHash, entryAt}
+use Rattle.rules.specs.Rules.{rule}
+use Rattle.rules.specs.Valid.{Valid}
+use Rattle.rules.proofs.Answered.{Clear, judged}
+use Rattle.rules.proofs.Valid.{keeps-valid}
+use Rattle.state.specs.declared.Fact.the-variants.{Heard}
+use Rattle.state.specs.declared.Number.the-variants.{DownOf}
+use Rattle.state.specs.Contents.{Contents, adding, insert, store, withEntry}
+use Rattle.state.specs.Sets.{knownTo}
+use Rattle.database.specs.Database.{fetched}
+use Rattle.view.specs.View.{stateOf}
+use Rattle.view.specs.Effect.{enterOn, effectOn}
+use Rattle.view.specs.Good.{Sound, Good}
+use Rattle.view.proofs.Meets.{meets}
+
+-- a hash entry stays one when another is appended
+hash-stays : (l m : List Entry) (e : ℕ) → isHash (entryAt l e) ≡ true → isHash (entryAt (l ++ m) e) ≡ true
+hash-stays [] m e h = false-true h
+hash-stays (a ∷ l) m zero h = h
+hash-stays (a ∷ l) m (suc e) h = hash-stays l m e h
+
+module _ (c : Contents) (S : Sound c) where
+  -- what is heard, the flags and the bag are left alone
+  untouched : (d : Contents) → ((j e : ℕ) → d .has (Heard j e) ≡ c .has (Heard j e)) → ((j : ℕ) → d .number (DownOf j) ≡ c .number (DownOf j)) → d .bag ≡ c .bag → Sound d
+  untouched d h n b = record { hears = λ j e q. rw b (S .hears j e (rw h at q)); flags = λ j. rw (n j) (S .flags j) }
+
+  enter-sound : (e : Entry) → Sound (enterOn e c)
+  unfolding enterOn withEntry
+  enter-sound e = go (isIn e (c .bag))
+    where
+      go : (b : Bool) → Sound (cond b c (withEntry e c))
+      go true = S
+      go false = record { hears = λ j a h. hash-stays (c .bag) (e ∷ []) a (S .hears j a h); flags = S .flags }
+
+  hear-sound : (j e : ℕ) → isHash (entryAt (c .bag) e) ≡ true → Sound (insert (Heard j e) c)
+  unfolding insert adding
+  hear-sound j e h = record { hears = λ k a q. go k a (either (eqb k j && eqb a e)) q; flags = S .flags }
+    where
+      go : (k a : ℕ) → (eqb k j && eqb a e ≡ true) ⊎ (eqb k j && eqb a e ≡ false) → (eqb k j && eqb a e) || c .has (Heard k a) ≡ true → isHash (entryAt (c .bag) a) ≡ true
+      go k a (inl u) q = rw (eqb-true a e (and-r (eqb k j) _ u)) h
+      go k a (inr u) q = S .hears k a (rw u at q)
+
+  down-sound : (j v : ℕ) → v < 2 → Sound (store (DownOf j) v c)
+  unfolding store
+  down-sound j v h = record { hears = S .hears; flags = λ k. go k (eqb k j) }
+    where
+      go : (k : ℕ) (b : Bool) → cond b v (c .number (DownOf k)) < 2
+      go k true = h
+      go k false = S .flags k
+
+keeps-sound : (T : Table) (c : Contents) (st : Step) → Sound c → Clear T (stateOf c) st → Sound (effectOn T c st)
+unfolding effectOn rule insert adding store fetched knownTo
+keeps-sound T c (Post x) S h = untouched c S _ (λ j e. refl) (λ j. refl) refl
+keeps-sound T c (Hand j x) S h = untouched c S _ (λ j e. refl) (λ j. refl) refl
+keeps-sound T c (Sign j x) S h = untouched c S _ (λ j e. refl) (λ j. refl) refl
+keeps-sound T c (Take j k p x) S h = untouched c S _ (λ j e. refl) (λ j. refl) refl
+keeps-sound T c (Share j x) S h = untouched c S _ (λ j e. refl) (λ j. refl) refl
+keeps-sound T c (Receipt p x) S h = untouched c S _ (λ j e. refl) (λ j. refl) refl
+keeps-sound T c (Close j) S h = untouched c S _ (λ j e. refl) (λ j. refl) refl
+keeps-sound T c (Fetch j k p) S h = untouched c S _ (λ j e. refl) (λ j. refl) refl
+keeps-sound T c (SendHash j p) S h = enter-sound c S _
+keeps-sound T c (Hear j e) S h = hear-sound c S j e (search judged)
+keeps-sound T c (Back j) S h = untouched (enterOn _ c) (enter-sound c S _) _ (λ j e. refl) (λ j. refl) refl
+keeps-sound T c (Publish e) S h = enter-sound c S _
+keeps-sound T c (FalseSignature j p x) S h = untouched c S _ (λ j e. refl) (λ j. refl) refl
+keeps-sound T c (FalseShare j p x) S h = untouched c S _ (λ j e. refl) (λ j. refl) refl
+keeps-sound T c (FalseHash j p B) S h = enter-sound c S _
+keeps-sound T c (FalseBacking j p B) S h = enter-sound c S _
+keeps-sound T c (Down j) S h = down-sound c S j 1 (omega arith)
+keeps-sound T c (Up j) S h = down-sound c S j 0 (omega arith)
+
+pub keeps-good : (T : Table) (c : Contents) (st : Step) → Good T c → Clear T (stateOf c) st → Good T (effectOn T c st)
+keeps-good T c st G h = record {
+  valid = subst (λ s. Valid T s) (sym (meets c (G .sound) T st h)) (keeps-valid T (stateOf c) (G .valid) st h);
+  sound = keeps-sound T c st (G .sound) h;
+}

@@ -1,0 +1,46 @@
+-- The table of the rules from a header, and the state of the rules from contents.
+use Prim.Native.Nat.{ℕ, zero, suc}
+use mathlib.Core.Bool.{Bool, false, _&&_, _||_}
+use mathlib.Core.List.{List, [], _∷_}
+use lib.Dec.{eqb}
+use Rattle.base.specs.Bits.{bit}
+use Rattle.base.specs.Weight.{ones}
+use Rattle.rules.specs.declared.Entry.{Entry}
+use Rattle.rules.specs.declared.Entry.the-variants.{Hash}
+use Rattle.rules.specs.Table.{Table}
+use Rattle.rules.specs.Bag.{sameEntry}
+use Rattle.rules.specs.State.{State}
+use Rattle.state.specs.declared.Fact.the-variants.{Posted, Signed, Shared, Receipted, Held, Known, Heard}
+use Rattle.state.specs.declared.Number.the-variants.{OpenOf, NextOf, DownOf}
+use Rattle.state.specs.Contents.{Contents}
+use Rattle.view.specs.declared.Head.{Head}
+
+-- peer k is in a set of peers, whose bit k - 1 it is
+unfoldable pub member : ℕ → ℕ → Bool
+member set zero = false
+member set (suc k) = bit set k
+
+-- the table of the rules: every weight is 1
+abbrev pub tableOf : Head → (ℕ → ℕ → Bool) → Table
+tableOf h clash = record { n = h .n; t = h .t; honest = member (h .honest); weightOf = ones; periods = h .periods; items = h .items; clash = clash }
+
+-- a heard entry number is that of the hash of signer k, period p and board B; the bag's first entry has number i
+unfoldable pub told : (ℕ → Bool) → ℕ → List Entry → ℕ → ℕ → ℕ → Bool
+told heard i [] k p B = false
+told heard i (a ∷ bag) k p B = (heard i && sameEntry (Hash k p B) a) || told heard (suc i) bag k p B
+
+-- the state of the rules
+abbrev pub stateOf : Contents → State
+stateOf c = record {
+  posted = λ x. c .has (Posted x);
+  signed = λ k p x. c .has (Signed k p x);
+  shared = λ k p x. c .has (Shared k p x);
+  receipted = λ p x. c .has (Receipted p x);
+  bag = c .bag;
+  down = λ j. eqb (c .number (DownOf j)) 1;
+  held = λ j p x. c .has (Held j p x);
+  db = λ j p x k. c .has (Known j p x k);
+  heard = λ j k p B. told (λ e. c .has (Heard j e)) 0 (c .bag) k p B;
+  current = λ j. c .number (OpenOf j);
+  toBack = λ j. c .number (NextOf j);
+}
