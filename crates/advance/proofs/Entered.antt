@@ -1,0 +1,32 @@
+-- An entry entered: it was there, or there was room for it.
+use Prim.Native.Nat.{ℕ, _<_}
+use mathlib.Core.Bool.{Bool, true, false, not, _&&_}
+use mathlib.Core.List.{List}
+use mathlib.Core.Path.{ap, ap₂, _∙_}
+use Rattle.rules.specs.declared.Entry.the-variants.{Board}
+use Rattle.rules.specs.Bag.{periodOf, boardOf}
+use mathlib.Core.Path.{_≡_}
+use lib.Dec.{leb}
+use lib.ListN.{length}
+use borrow.Author.Tests.{leb-false}
+use Rattle.rules.specs.declared.Entry.{Entry}
+use Rattle.rules.specs.Bag.{isIn, isFull}
+use Rattle.state.specs.Layout.{entries}
+use Rattle.state.specs.Contents.{Contents, contents, Canon, Holds, withEntry}
+use Rattle.view.specs.Effect.{enterOn}
+
+pub entered-there : (s : List ℕ) (x : Entry) {r : Bool} → Canon s → r ≡ isIn x (contents s .bag) → r ≡ true → Holds s (enterOn x (contents s))
+unfolding enterOn
+entered-there s x c e t = record { canon = c; says = rw (← e, t) }
+
+pub entered-new : (s t : List ℕ) (x : Entry) {r : Bool} → r ≡ isIn x (contents s .bag) → r ≡ false → Holds t (withEntry x (contents s)) → Holds t (enterOn x (contents s))
+unfolding enterOn
+entered-new s t x e f h = rw (← e, f) h
+
+pub has-room : (s : List ℕ) (x : Entry) {r : Bool} → isFull x (contents s .bag) ≡ false → r ≡ isIn x (contents s .bag) → r ≡ false → length (contents s .bag) < entries
+unfolding isFull
+has-room s x full e f = leb-false entries (length (contents s .bag)) (rw (← e, f) at full)
+
+-- an entry's period and board, as a board
+pub as-board : (x y : Entry) (p B : ℕ) → x ≡ y → p ≡ periodOf x → B ≡ boardOf x → Board p B ≡ Board (periodOf y) (boardOf y)
+as-board x y p B e i k = ap₂ Board (i ∙ ap periodOf e) (k ∙ ap boardOf e)

@@ -1,0 +1,45 @@
+-- Counts of signers and sharers, as the rules weigh them: in a state that is ready no peer above n has signed or shared.
+use Prim.Native.Nat.{ℕ, zero, suc, _+_, _-_, _≤_, _<_}
+use native.Mathlib.Omega.{arith}
+use mathlib.Core.Bool.{Bool, true, false, not}
+use mathlib.Core.List.{List}
+use mathlib.Core.Path.{_≡_, ap, _∙_}
+use mathlib.Core.Logic.{_⊎_, inl, inr}
+use lib.Dec.{leb, ltb}
+use borrow.Author.Tests.{ltb-true, ltb-false, le-leb, lt-leb}
+use Rattle.base.specs.Weight.{weight, ones}
+use Rattle.base.proofs.Truth.{either, is-false}
+use Rattle.state.specs.declared.Fact.the-variants.{Shared, Known}
+use Rattle.state.specs.Layout.{peers}
+use Rattle.state.specs.Contents.{contents}
+use Rattle.state.specs.Sets.{signerCount, sharerCount}
+use Rattle.view.specs.declared.Head.{Head}
+use Rattle.valid.specs.Ready.{Ready}
+
+-- peers above n that are not in the set add nothing
+weight-stop : (w : ℕ → ℕ) (n d : ℕ) (S : ℕ → Bool) → ((k : ℕ) → n < k → S k ≡ false) → weight w (n + d) S ≡ weight w n S
+unfolding weight
+weight-stop w n zero S none = ap (λ (m : ℕ). weight w m S) {x = n + 0} {y = n} (omega arith)
+weight-stop w n (suc d) S none =
+    ap (λ (m : ℕ). weight w m S) {x = n + suc d} {y = suc (n + d)} (omega arith) ∙ rw (none (suc (n + d)) (omega arith)) (omega (arith, weight-stop w n d S none))
+
+pub among : (w : ℕ → ℕ) (n m : ℕ) (S : ℕ → Bool) → n ≤ m → ((k : ℕ) → S k ≡ true → k ≤ n) → weight w m S ≡ weight w n S
+among w n m S l below =
+    ap (λ (x : ℕ). weight w x S) {x = m} {y = n + (m - n)} (omega arith) ∙ weight-stop w n (m - n) S (λ k h. is-false _ (λ e. omega (arith, below k e)))
+
+-- fewer than t, counted
+pub few-of : (r t u w : ℕ) → r ≡ w → t ≡ u → ltb r t ≡ not (leb u w)
+few-of r t u w e f = go (either (ltb r t))
+  where
+    go : (ltb r t ≡ true) ⊎ (ltb r t ≡ false) → ltb r t ≡ not (leb u w)
+    go (inl q) = q ∙ rw (lt-leb u w (omega (arith, ltb-true r t q)))
+    go (inr q) = q ∙ rw (le-leb u w (omega (arith, ltb-false r t q)))
+
+module _ (h : Head) (clash : ℕ → ℕ → Bool) (s : List ℕ) (R : Ready h clash s) where
+  pub signers-weigh : (j p x : ℕ) → signerCount (contents s) j p x ≡ weight ones (h .n) (λ k. contents s .has (Known j p x k))
+  unfolding signerCount
+  signers-weigh j p x = among ones (h .n) peers (λ k. contents s .has (Known j p x k)) (R .room .peers) (λ k q. R .good .valid .sets .knows j p x k q .1 .1)
+
+  pub sharers-weigh : (p x : ℕ) → sharerCount (contents s) p x ≡ weight ones (h .n) (λ k. contents s .has (Shared k p x))
+  unfolding sharerCount
+  sharers-weigh p x = among ones (h .n) peers (λ k. contents s .has (Shared k p x)) (R .room .peers) (λ k q. R .good .valid .sets .shares k p x q .0 .1)

@@ -1,0 +1,5 @@
+pub mod Tests
+pub mod Counts
+pub mod Rows
+pub mod Supporters
+pub mod Sheets

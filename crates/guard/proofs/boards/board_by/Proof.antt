@@ -1,0 +1,15 @@
+-- By `board-found`.
+use mathlib.Core.Path.{_∙_}
+use Rattle.guard.proofs.Sheets.{board-found}
+use borrow.Author.Needs.{needs}
+use Rattle.guard.proofs.boards.board_by.Statement.{statement}
+use Rattle.guard.proofs.boards.board_by.Tie as tie
+
+board-of-requires : tie.Need-board-of-requires
+board-of-requires c κs = search needs
+
+returns : tie.Need-returns
+returns c = c .board-of .ensures ∙ board-found _ _ _ (c .before .before .before .pre) _ _
+
+pub board-by-spec : {M : Type 1} → statement M
+board-by-spec = tie.close (tie.spec board-of-requires returns)

@@ -1,0 +1,14 @@
+-- By `read-tests`.
+use Rattle.guard.proofs.Tests.{read-tests}
+use borrow.Author.Needs.{needs}
+use Rattle.guard.proofs.items.not_signed.Statement.{statement}
+use Rattle.guard.proofs.items.not_signed.Tie as tie
+
+is-there-requires : tie.Need-is-there-requires
+is-there-requires c κs = search needs
+
+returns : tie.Need-returns
+returns c = search read-tests
+
+pub not-signed-spec : {M : Type 1} → statement M
+not-signed-spec = tie.close (tie.spec is-there-requires returns)

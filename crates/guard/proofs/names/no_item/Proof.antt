@@ -1,0 +1,10 @@
+-- By `no-item-test`.
+use Rattle.guard.proofs.Tests.{no-item-test}
+use Rattle.guard.proofs.names.no_item.Statement.{statement}
+use Rattle.guard.proofs.names.no_item.Tie as tie
+
+returns : tie.Need-returns
+returns c = search no-item-test
+
+pub no-item-spec : {M : Type 1} → statement M
+no-item-spec = tie.close (tie.spec returns)

@@ -1,0 +1,14 @@
+-- By `read-tests`.
+use Rattle.guard.proofs.Tests.{read-tests}
+use borrow.Author.Needs.{needs}
+use Rattle.guard.proofs.names.not_honest.Statement.{statement}
+use Rattle.guard.proofs.names.not_honest.Tie as tie
+
+is-honest-requires : tie.Need-is-honest-requires
+is-honest-requires c κs = search needs
+
+returns : tie.Need-returns
+returns c = search read-tests
+
+pub not-honest-spec : {M : Type 1} → statement M
+not-honest-spec = tie.close (tie.spec is-honest-requires returns)

@@ -1,0 +1,14 @@
+-- By `read-tests`.
+use Rattle.guard.proofs.Tests.{read-tests}
+use borrow.Author.Needs.{needs}
+use Rattle.guard.proofs.periods.none_open.Statement.{statement}
+use Rattle.guard.proofs.periods.none_open.Tie as tie
+
+open-of-requires : tie.Need-open-of-requires
+open-of-requires c κs = search needs
+
+returns : tie.Need-returns
+returns c = search read-tests
+
+pub none-open-spec : {M : Type 1} → statement M
+none-open-spec = tie.close (tie.spec open-of-requires returns)

@@ -1,0 +1,88 @@
+// Entries of the bag: 10, and the room for one more: 13.
+ghost use mathlib.Core.Path.{_≡_};
+ghost use mathlib.Core.Bool.{not};
+ghost use lib.Dec.{ltb};
+ghost use Rattle.rules.specs.Bag.{isHash, isBacking, isFull, entryAt, periodOf, boardOf};
+ghost use Rattle.state.specs.declared.Number.the-variants.{OpenOf};
+ghost use Rattle.state.specs.Contents.{contents, Canon};
+use rules::Entry;
+use state::bag::bag_len;
+use state::bag::entry_at;
+use state::bag::is_in;
+use state::numbers::open_of;
+
+fn is_hash(x: Entry) -> bool
+    ensures { λ r. ⌜ r ≡ isHash x ⌝ }
+{
+    match x {
+        Entry::Hash(_, _, _) => true,
+        Entry::Backing(_, _, _) => false,
+        Entry::Board(_, _) => false,
+    }
+}
+
+fn is_backing(x: Entry) -> bool
+    ensures { λ r. ⌜ r ≡ isBacking x ⌝ }
+{
+    match x {
+        Entry::Hash(_, _, _) => false,
+        Entry::Backing(_, _, _) => true,
+        Entry::Board(_, _) => false,
+    }
+}
+
+pub fn period_of(x: Entry) -> u8
+    ensures { λ r. ⌜ r ≡ periodOf x ⌝ }
+{
+    match x {
+        Entry::Hash(_, p, _) => p,
+        Entry::Backing(_, p, _) => p,
+        Entry::Board(p, _) => p,
+    }
+}
+
+// The board that an entry names.
+pub fn board_of_entry(x: Entry) -> u64
+    ensures { λ r. ⌜ r ≡ boardOf x ⌝ }
+{
+    match x {
+        Entry::Hash(_, _, b) => b,
+        Entry::Backing(_, _, b) => b,
+        Entry::Board(_, b) => b,
+    }
+}
+
+// Entry e is absent, or no hash.
+pub fn not_hash(s: &[u8], e: u8) -> bool
+    requires { ⌜ Canon (now s) ⌝ }
+    ensures { λ r. ⌜ r ≡ not (isHash (entryAt (contents (now (s .entry)) .bag) e)) ⌝ }
+{
+    !is_hash(entry_at(s, e as usize))
+}
+
+// Entry e is absent, or no backing.
+pub fn not_backing(s: &[u8], e: u8) -> bool
+    requires { ⌜ Canon (now s) ⌝ }
+    ensures { λ r. ⌜ r ≡ not (isBacking (entryAt (contents (now (s .entry)) .bag) e)) ⌝ }
+{
+    !is_backing(entry_at(s, e as usize))
+}
+
+// Peer j has not closed the period of entry e.
+pub fn entry_not_closed(s: &[u8], j: u8, e: u8) -> bool
+    requires { ⌜ Canon (now s) ⌝ }
+    ensures { λ r. ⌜ r ≡ not (ltb (periodOf (entryAt (contents (now (s .entry)) .bag) e)) (contents (now (s .entry)) .number (OpenOf j))) ⌝ }
+{
+    open_of(s, j) <= period_of(entry_at(s, e as usize))
+}
+
+// The entry is new, and there is no room for it.
+pub fn is_full(s: &[u8], x: Entry) -> bool
+    requires { ⌜ Canon (now s) ⌝ }
+    ensures { λ r. ⌜ r ≡ isFull x (contents (now (s .entry)) .bag) ⌝ }
+{
+    if is_in(s, x) {
+        return false;
+    }
+    256 <= bag_len(s)
+}

@@ -1,0 +1,71 @@
+// Names and roles: 6 and 7.
+ghost use mathlib.Core.Path.{_≡_};
+ghost use mathlib.Core.Bool.{_||_, not};
+ghost use Prim.Native.Nat.{_^_, _≤_};
+ghost use lib.Dec.{eqb, ltb};
+ghost use Rattle.view.specs.View.{member};
+use view::Head;
+
+pub fn no_peer(h: Head, j: u8) -> bool
+    ensures { λ r. ⌜ r ≡ (eqb j 0 || ltb (h .n) j) ⌝ }
+{
+    if j == 0 {
+        return true;
+    }
+    h.n < j
+}
+
+pub fn no_period(h: Head, p: u8) -> bool
+    ensures { λ r. ⌜ r ≡ not (ltb p (h .periods)) ⌝ }
+{
+    h.periods <= p
+}
+
+pub fn no_item(h: Head, x: u8) -> bool
+    ensures { λ r. ⌜ r ≡ not (ltb x (h .items)) ⌝ }
+{
+    h.items <= x
+}
+
+fn has_above(board: u64, items: u8) -> bool
+    requires { ⌜ items ≤ 64 ⌝ }
+    ensures { λ r. ⌜ r ≡ not (ltb board (2 ^ items)) ⌝ }
+{
+    if items == 64 {
+        return false;
+    }
+    board >> items != 0
+}
+
+// Whether the board has an item that the table has not.
+pub fn no_board(h: Head, board: u64) -> bool
+    requires { ⌜ h .items ≤ 64 ⌝ }
+    ensures { λ r. ⌜ r ≡ not (ltb board (2 ^ h .items)) ⌝ }
+{
+    has_above(board, h.items)
+}
+
+// Whether peer k is in a set of peers.
+fn in_set(set: u16, k: u8) -> bool
+    ensures { λ r. ⌜ r ≡ member set k ⌝ }
+{
+    if k == 0 {
+        return false;
+    }
+    if 16 < k {
+        return false;
+    }
+    (set >> (k - 1)) % 2 == 1
+}
+
+pub fn is_honest(h: Head, j: u8) -> bool
+    ensures { λ r. ⌜ r ≡ member (h .honest) j ⌝ }
+{
+    in_set(h.honest, j)
+}
+
+pub fn not_honest(h: Head, j: u8) -> bool
+    ensures { λ r. ⌜ r ≡ not (member (h .honest) j) ⌝ }
+{
+    !is_honest(h, j)
+}

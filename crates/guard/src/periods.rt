@@ -1,0 +1,48 @@
+// Whether a peer is down, and its periods: 8 and 9.
+ghost use mathlib.Core.Path.{_≡_};
+ghost use mathlib.Core.Bool.{not};
+ghost use lib.Dec.{eqb, ltb};
+ghost use Rattle.state.specs.declared.Number.the-variants.{OpenOf, NextOf, DownOf};
+ghost use Rattle.state.specs.Contents.{contents, Canon};
+use state::numbers::down_of;
+use state::numbers::next_of;
+use state::numbers::open_of;
+use view::Head;
+
+pub fn is_down(s: &[u8], j: u8) -> bool
+    requires { ⌜ Canon (now s) ⌝ }
+    ensures { λ r. ⌜ r ≡ eqb (contents (now (s .entry)) .number (DownOf j)) 1 ⌝ }
+{
+    down_of(s, j) == 1
+}
+
+// Peer j has no open period.
+pub fn none_open(s: &[u8], h: Head, j: u8) -> bool
+    requires { ⌜ Canon (now s) ⌝ }
+    ensures { λ r. ⌜ r ≡ not (ltb (contents (now (s .entry)) .number (OpenOf j)) (h .periods)) ⌝ }
+{
+    h.periods <= open_of(s, j)
+}
+
+// Period p is beyond peer j's open one.
+pub fn beyond(s: &[u8], j: u8, p: u8) -> bool
+    requires { ⌜ Canon (now s) ⌝ }
+    ensures { λ r. ⌜ r ≡ ltb (contents (now (s .entry)) .number (OpenOf j)) p ⌝ }
+{
+    open_of(s, j) < p
+}
+
+pub fn not_closed(s: &[u8], j: u8, p: u8) -> bool
+    requires { ⌜ Canon (now s) ⌝ }
+    ensures { λ r. ⌜ r ≡ not (ltb p (contents (now (s .entry)) .number (OpenOf j))) ⌝ }
+{
+    open_of(s, j) <= p
+}
+
+// Peer j has backed every period that it has closed.
+pub fn all_backed(s: &[u8], j: u8) -> bool
+    requires { ⌜ Canon (now s) ⌝ }
+    ensures { λ r. ⌜ r ≡ not (ltb (contents (now (s .entry)) .number (NextOf j)) (contents (now (s .entry)) .number (OpenOf j))) ⌝ }
+{
+    open_of(s, j) <= next_of(s, j)
+}

@@ -1,0 +1,38 @@
+// Whether fewer than t peers signed or gave a receipt share: 12.
+ghost use mathlib.Core.Path.{_≡_};
+ghost use mathlib.Core.Bool.{not};
+ghost use lib.Dec.{leb};
+ghost use Rattle.base.specs.Weight.{weight, ones};
+ghost use Rattle.ballot.specs.Clash.{clashIn};
+ghost use Rattle.state.specs.declared.Fact.the-variants.{Shared, Known};
+ghost use Rattle.state.specs.declared.Number.the-variants.{OpenOf};
+ghost use Rattle.state.specs.Contents.{contents};
+ghost use Rattle.valid.specs.Ready.{Ready};
+use state::numbers::open_of;
+use state::sets::sharer_count;
+use state::sets::signer_count;
+use view::Head;
+
+fn wide(x: u8) -> u32
+    ensures { λ r. ⌜ r ≡ x ⌝ }
+{
+    x as u32
+}
+
+// Peer j's database has fewer than t signers on item x in its open period.
+pub fn few_signers(table: &[u8], s: &[u8], h: Head, j: u8, x: u8) -> bool
+    requires { ⌜ Ready h (clashIn (now table)) (now s) ⌝ }
+    ensures { λ r. ⌜ r ≡ not (leb (h .t) (weight ones (h .n) (λ k. contents (now (s .entry)) .has (Known j (contents (now (s .entry)) .number (OpenOf j)) x k)))) ⌝ }
+{
+    let count = signer_count(s, j, open_of(s, j), x);
+    count < wide(h.t)
+}
+
+// Fewer than t receipt shares on item x in period p are outside.
+pub fn few_sharers(table: &[u8], s: &[u8], h: Head, p: u8, x: u8) -> bool
+    requires { ⌜ Ready h (clashIn (now table)) (now s) ⌝ }
+    ensures { λ r. ⌜ r ≡ not (leb (h .t) (weight ones (h .n) (λ k. contents (now (s .entry)) .has (Shared k p x)))) ⌝ }
+{
+    let count = sharer_count(s, p, x);
+    count < wide(h.t)
+}

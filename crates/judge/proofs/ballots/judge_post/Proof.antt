@@ -1,0 +1,25 @@
+-- The first test that holds gives the answer, in the rules' order: by `row`.
+use borrow.Author.Needs.{needs}
+use Rattle.rules.specs.Rules.{rule, answer}
+use Rattle.judge.proofs.Row.{row, asked}
+use Rattle.judge.proofs.ballots.judge_post.Statement.{statement}
+use Rattle.judge.proofs.ballots.judge_post.Tie as tie
+
+no-item-requires : tie.Need-no-item-requires
+no-item-requires c κs = search asked
+
+returns : tie.Need-returns
+unfolding answer rule
+returns c = search row depth 5
+
+returns-2 : tie.Need-returns-2
+unfolding answer rule
+returns-2 c = search row depth 5
+
+pub judge-post-spec : {M : Type 1} → statement M
+judge-post-spec =
+    tie.close
+    (tie.spec
+    no-item-requires
+    returns
+    returns-2)

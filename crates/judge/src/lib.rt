@@ -1,0 +1,5 @@
+// For each step the answer of the rules: a row of tests, in the order of its refusals. It reads, and changes nothing.
+pub mod ballots;
+pub mod closing;
+pub mod outside;
+mod own;

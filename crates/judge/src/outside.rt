@@ -1,0 +1,130 @@
+// Steps 13 to 18: what the outsider does, and peers that go down and come up. For each its refusals, in the order in which they are judged.
+ghost use mathlib.Core.Path.{_≡_};
+ghost use Rattle.ballot.specs.Clash.{clashIn};
+ghost use Rattle.rules.specs.Rules.{answer};
+ghost use Rattle.rules.specs.declared.Step.the-variants.{FalseSignature, FalseShare, FalseHash, FalseBacking, Down, Up};
+ghost use Rattle.state.specs.Contents.{contents};
+ghost use Rattle.view.specs.View.{tableOf, stateOf};
+ghost use Rattle.valid.specs.Ready.{Ready};
+use rules::Entry;
+use view::Head;
+
+pub fn judge_false_signature(table: &[u8], s: &[u8], h: Head, j: u8, p: u8, x: u8) -> u8
+    requires { ⌜ Ready h (clashIn (now table)) (now s) ⌝ }
+    ensures { λ r. ⌜ r ≡ answer (tableOf h (clashIn (now (table .entry)))) (stateOf (contents (now (s .entry)))) (FalseSignature j p x) ⌝ }
+{
+    if guard::names::no_peer(h, j) {
+        return 6;
+    }
+    if guard::names::no_period(h, p) {
+        return 6;
+    }
+    if guard::names::no_item(h, x) {
+        return 6;
+    }
+    if guard::names::is_honest(h, j) {
+        return 7;
+    }
+    if guard::items::not_posted(s, x) {
+        return 10;
+    }
+    0
+}
+
+pub fn judge_false_share(table: &[u8], s: &[u8], h: Head, j: u8, p: u8, x: u8) -> u8
+    requires { ⌜ Ready h (clashIn (now table)) (now s) ⌝ }
+    ensures { λ r. ⌜ r ≡ answer (tableOf h (clashIn (now (table .entry)))) (stateOf (contents (now (s .entry)))) (FalseShare j p x) ⌝ }
+{
+    if guard::names::no_peer(h, j) {
+        return 6;
+    }
+    if guard::names::no_period(h, p) {
+        return 6;
+    }
+    if guard::names::no_item(h, x) {
+        return 6;
+    }
+    if guard::names::is_honest(h, j) {
+        return 7;
+    }
+    if guard::items::not_posted(s, x) {
+        return 10;
+    }
+    0
+}
+
+pub fn judge_false_hash(table: &[u8], s: &[u8], h: Head, j: u8, p: u8, board: u64) -> u8
+    requires { ⌜ Ready h (clashIn (now table)) (now s) ⌝ }
+    ensures { λ r. ⌜ r ≡ answer (tableOf h (clashIn (now (table .entry)))) (stateOf (contents (now (s .entry)))) (FalseHash j p board) ⌝ }
+{
+    if guard::names::no_peer(h, j) {
+        return 6;
+    }
+    if guard::names::no_period(h, p) {
+        return 6;
+    }
+    if guard::names::no_board(h, board) {
+        return 6;
+    }
+    if guard::names::is_honest(h, j) {
+        return 7;
+    }
+    if guard::boards::unposted(s, h, board) {
+        return 10;
+    }
+    if guard::bag::is_full(s, Entry::Hash(j, p, board)) {
+        return 13;
+    }
+    0
+}
+
+pub fn judge_false_backing(table: &[u8], s: &[u8], h: Head, j: u8, p: u8, board: u64) -> u8
+    requires { ⌜ Ready h (clashIn (now table)) (now s) ⌝ }
+    ensures { λ r. ⌜ r ≡ answer (tableOf h (clashIn (now (table .entry)))) (stateOf (contents (now (s .entry)))) (FalseBacking j p board) ⌝ }
+{
+    if guard::names::no_peer(h, j) {
+        return 6;
+    }
+    if guard::names::no_period(h, p) {
+        return 6;
+    }
+    if guard::names::no_board(h, board) {
+        return 6;
+    }
+    if guard::names::is_honest(h, j) {
+        return 7;
+    }
+    if guard::boards::unposted(s, h, board) {
+        return 10;
+    }
+    if guard::bag::is_full(s, Entry::Backing(j, p, board)) {
+        return 13;
+    }
+    0
+}
+
+pub fn judge_down(table: &[u8], s: &[u8], h: Head, j: u8) -> u8
+    requires { ⌜ Ready h (clashIn (now table)) (now s) ⌝ }
+    ensures { λ r. ⌜ r ≡ answer (tableOf h (clashIn (now (table .entry)))) (stateOf (contents (now (s .entry)))) (Down j) ⌝ }
+{
+    if guard::names::no_peer(h, j) {
+        return 6;
+    }
+    if guard::names::not_honest(h, j) {
+        return 7;
+    }
+    0
+}
+
+pub fn judge_up(table: &[u8], s: &[u8], h: Head, j: u8) -> u8
+    requires { ⌜ Ready h (clashIn (now table)) (now s) ⌝ }
+    ensures { λ r. ⌜ r ≡ answer (tableOf h (clashIn (now (table .entry)))) (stateOf (contents (now (s .entry)))) (Up j) ⌝ }
+{
+    if guard::names::no_peer(h, j) {
+        return 6;
+    }
+    if guard::names::not_honest(h, j) {
+        return 7;
+    }
+    0
+}

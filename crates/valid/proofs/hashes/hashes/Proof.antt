@@ -1,0 +1,60 @@
+-- The bits so far are the hashes among the entries so far.
+use Prim.Native.Nat.{_≤_, _-_}
+use native.Mathlib.Omega.{arith}
+use borrow.Author.Needs.{needs}
+use Rattle.valid.proofs.HashSet.{HashesTo, hashes-none, hashes-more, hashes-all}
+use Rattle.valid.proofs.hashes.hashes.Statement.{statement}
+use Rattle.valid.proofs.hashes.hashes.Tie as tie
+
+abbrev Inv-loop : tie.InvT-loop
+Inv-loop s n m₀ e₀ m e = (e ≤ n) × HashesTo s e m
+
+abbrev μ-loop : tie.MeasureT-loop
+μ-loop s n m₀ e₀ m e = n - e
+
+loop-holds : tie.Need-loop-holds Inv-loop μ-loop
+loop-holds c = (search needs, hashes-none _)
+
+slice-aggregate-put-if : tie.Need-slice-aggregate-put-if Inv-loop μ-loop
+slice-aggregate-put-if c = search needs
+
+mul-put-if : tie.Need-mul-put-if Inv-loop μ-loop
+mul-put-if c = search needs
+
+add-put-if : tie.Need-add-put-if Inv-loop μ-loop
+add-put-if c = search needs
+
+shared-slice-read-put-if : tie.Need-shared-slice-read-put-if Inv-loop μ-loop
+shared-slice-read-put-if c = search needs
+
+put-if-requires : tie.Need-put-if-requires Inv-loop μ-loop
+put-if-requires c κs = search needs
+
+add-e : tie.Need-add-e Inv-loop μ-loop
+add-e c = search needs
+
+loop-less : tie.Need-loop-less Inv-loop μ-loop
+loop-less c = search needs
+
+loop-again : tie.Need-loop-again Inv-loop μ-loop
+loop-again c = (search needs, hashes-more _ _ _ _ (omega arith) (c .before .before .before .before .before .loop .inv .1) (c .before .put-if .ensures))
+
+returns : tie.Need-returns Inv-loop μ-loop
+returns c = hashes-all _ _ _ _ (c .before .loop .inv .1) (omega arith) (omega arith) (c .before .before .before .pre .1 .0)
+
+pub hashes-spec : {M : Type 1} → statement M
+hashes-spec =
+    tie.close
+    (tie.spec
+    Inv-loop
+    μ-loop
+    loop-holds
+    slice-aggregate-put-if
+    mul-put-if
+    add-put-if
+    shared-slice-read-put-if
+    put-if-requires
+    add-e
+    loop-less
+    loop-again
+    returns)

@@ -1,0 +1,35 @@
+-- The byte is full, past the first n bits, or has the last n % 8 of them.
+use Prim.Native.Nat.{_%_}
+use native.Mathlib.Omega.{arith}
+use lib.Pow.{pow-pos}
+use borrow.Author.Needs.{needs}
+use Rattle.bits.proofs.Row.{shl-one}
+use Rattle.valid.proofs.Masks.{first-full, first-past, first-last}
+use Rattle.valid.proofs.mask.first_byte.Statement.{statement}
+use Rattle.valid.proofs.mask.first_byte.Tie as tie
+
+wide-requires : tie.Need-wide-requires
+wide-requires c κs = search needs
+
+returns : tie.Need-returns
+returns c = first-full _ _ (omega arith)
+
+wide-requires-2 : tie.Need-wide-requires-2
+wide-requires-2 c κs = search needs
+
+returns-2 : tie.Need-returns-2
+returns-2 c = first-past _ _ (omega arith)
+
+shl-result : tie.Need-shl-result
+shl-result c = search needs
+
+sub-result : tie.Need-sub-result
+sub-result c = rw (shl-one 8 (c .before .before .before .before .args .n % 8) (omega arith)) (omega (arith, pow-pos (c .before .before .before .before .args .n % 8)))
+
+returns-3 : tie.Need-returns-3
+returns-3 c = rw (shl-one 8 (c .before .before .before .before .args .n % 8) (omega arith)) (first-last _ _ (omega arith))
+
+pub first-byte-spec : {M : Type 1} → statement M
+first-byte-spec =
+    tie.close
+    (tie.spec wide-requires returns wide-requires-2 returns-2 shl-result sub-result returns-3)

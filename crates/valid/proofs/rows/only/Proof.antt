@@ -1,0 +1,63 @@
+-- What was gathered is 0 exactly if no byte so far has a bit beside the mask's.
+use Prim.Native.Nat.{_≤_, _-_}
+use native.Mathlib.Omega.{arith}
+use mathlib.Core.Path.{_≡_, sym, _∙_}
+use lib.Dec.{eqb}
+use lib.ListN.{length}
+use borrow.Author.Needs.{needs}
+use Rattle.base.specs.Below.{every}
+use Rattle.base.proofs.Below.{every-all}
+use Rattle.bits.specs.Row.{bitAt}
+use Rattle.valid.proofs.Only.{byteIn, only-more, only-bytes}
+use Rattle.valid.proofs.rows.only.Statement.{statement}
+use Rattle.valid.proofs.rows.only.Tie as tie
+
+abbrev Inv-loop : tie.InvT-loop
+Inv-loop s o mask beside₀ i₀ beside i = (i ≤ length mask) × (eqb beside 0 ≡ every i (byteIn s o (bitAt mask)))
+
+abbrev μ-loop : tie.MeasureT-loop
+μ-loop s o mask beside₀ i₀ beside i = length mask - i
+
+loop-holds : tie.Need-loop-holds Inv-loop μ-loop
+unfolding every
+loop-holds c = search needs
+
+add-beside : tie.Need-add-beside Inv-loop μ-loop
+add-beside c = search needs
+
+shared-slice-read-beside : tie.Need-shared-slice-read-beside Inv-loop μ-loop
+shared-slice-read-beside c = search needs
+
+shared-slice-read-beside-2 : tie.Need-shared-slice-read-beside-2 Inv-loop μ-loop
+shared-slice-read-beside-2 c = search needs
+
+shared-slice-read-beside-3 : tie.Need-shared-slice-read-beside-3 Inv-loop μ-loop
+shared-slice-read-beside-3 c = search needs
+
+add-i : tie.Need-add-i Inv-loop μ-loop
+add-i c = search needs
+
+loop-less : tie.Need-loop-less Inv-loop μ-loop
+loop-less c = search needs
+
+loop-again : tie.Need-loop-again Inv-loop μ-loop
+loop-again c = (search needs, only-more _ _ _ _ (c .before .before .before .before .loop .beside) (c .before .before .before .before .loop .inv .1) (c .before .before .shared-slice-known .given _ .fits) (c .before .shared-slice-known2 .given _ .fits))
+
+returns : tie.Need-returns Inv-loop μ-loop
+returns c = every-all _ _ _ _ (omega arith) (c .before .loop .inv .1) ∙ sym (only-bytes _ _ _ _)
+
+pub only-spec : {M : Type 1} → statement M
+only-spec =
+    tie.close
+    (tie.spec
+    Inv-loop
+    μ-loop
+    loop-holds
+    add-beside
+    shared-slice-read-beside
+    shared-slice-read-beside-2
+    shared-slice-read-beside-3
+    add-i
+    loop-less
+    loop-again
+    returns)

@@ -1,0 +1,48 @@
+-- The tests in the definition's order.
+use borrow.Author.Needs.{needs}
+use Rattle.valid.proofs.Chain.{by-tests}
+use Rattle.valid.specs.StateOk.{stateOk}
+use Rattle.valid.proofs.Steps.{few-entries}
+use Rattle.valid.proofs.state_ok.Statement.{statement}
+use Rattle.valid.proofs.state_ok.Tie as tie
+
+returns : tie.Need-returns
+unfolding stateOk
+returns c = search by-tests depth 12
+
+bag-ok-requires : tie.Need-bag-ok-requires
+bag-ok-requires c κs = search needs
+
+returns-2 : tie.Need-returns-2
+unfolding stateOk
+returns-2 c = search by-tests depth 12
+
+peers-ok-requires : tie.Need-peers-ok-requires
+peers-ok-requires c κs = search needs
+
+returns-3 : tie.Need-returns-3
+unfolding stateOk
+returns-3 c = search by-tests depth 12
+
+count-of-requires : tie.Need-count-of-requires
+count-of-requires c κs = search needs
+
+facts-ok-requires : tie.Need-facts-ok-requires
+facts-ok-requires c κs = search few-entries depth 12
+
+returns-4 : tie.Need-returns-4
+unfolding stateOk
+returns-4 c = search by-tests depth 12
+
+pub state-ok-spec : {M : Type 1} → statement M
+state-ok-spec =
+    tie.close
+    (tie.spec
+    returns
+    bag-ok-requires
+    returns-2
+    peers-ok-requires
+    returns-3
+    count-of-requires
+    facts-ok-requires
+    returns-4)

@@ -1,0 +1,5 @@
+pub mod StateOk
+pub mod Ready
+pub mod Rows
+pub mod Regions
+pub mod Numbers

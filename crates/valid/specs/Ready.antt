@@ -1,0 +1,20 @@
+-- A state's bytes that the inner step may be run on.
+use Prim.Native.Nat.{ℕ, _≤_}
+use mathlib.Core.Bool.{Bool}
+use mathlib.Core.List.{List}
+use Rattle.state.specs.Layout.{peers, periods, items}
+use Rattle.state.specs.Contents.{contents, Canon}
+use Rattle.view.specs.declared.Head.{Head}
+use Rattle.view.specs.View.{tableOf}
+use Rattle.view.specs.Good.{Good}
+
+-- the header's numbers are within the layout
+pub record Room (h : Head) : Type 0 where
+  pub peers : h .n ≤ peers
+  pub periods : h .periods ≤ periods
+  pub items : h .items ≤ items
+
+pub record Ready (h : Head) (clash : ℕ → ℕ → Bool) (s : List ℕ) : Type 0 where
+  pub room : Room h
+  pub canon : Canon s
+  pub good : Good (tableOf h clash) (contents s)
