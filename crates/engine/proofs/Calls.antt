@@ -1,0 +1,85 @@
+-- What fresh and step answer and leave, at each return.
+use Prim.Native.Nat.{ℕ}
+use mathlib.Core.Bool.{Bool, true, false}
+use mathlib.Core.List.{List}
+use mathlib.Core.Path.{_≡_, refl, sym, ap, subst, _∙_}
+use lib.ListN.{length, replicate}
+use borrow.Author.Tests.{eq-eqb, ne-eqb}
+use Rattle.ballot.specs.Header.{peersOf, thresholdOf, honestOf, periodsOf, itemsOf}
+use Rattle.ballot.specs.Clash.{clashIn}
+use Rattle.ballot.specs.Table.{refusal}
+use Rattle.ballot.proofs.Sound.{sound}
+use Rattle.bits.specs.Row.{Bytes}
+use Rattle.rules.specs.declared.Step.{Step}
+use Rattle.rules.specs.declared.Call.{Call}
+use Rattle.rules.specs.declared.Call.the-variants.{Formed, Malformed}
+use Rattle.rules.specs.Form.{read}
+use Rattle.rules.specs.Rules.{reply}
+use Rattle.state.specs.Layout.{size}
+use Rattle.view.specs.declared.Head.{Head}
+use Rattle.valid.specs.StateOk.{stateOk}
+use Rattle.valid.specs.Ready.{Room, Ready}
+use Rattle.valid.proofs.Ready.{ready-of-ok}
+use Rattle.advance.specs.Stepped.{Stepped}
+use Rattle.engine.specs.Engine.{headOf, leaveOn, stepAnswer, stepBytes, freshAnswer, freshBytes, freshState}
+
+-- a header, field by field
+pub all-read : (table : List ℕ) (n t honest periods items : ℕ) → n ≡ peersOf table → t ≡ thresholdOf table → honest ≡ honestOf table → periods ≡ periodsOf table → items ≡ itemsOf table
+    → _≡_ {A = Head} (record { n = n; t = t; honest = honest; periods = periods; items = items }) (headOf table)
+all-read table n t honest periods items a b c d e = λ i. record { n = a i; t = b i; honest = c i; periods = d i; items = e i }
+
+module _ (table : List ℕ) {r : ℕ} (checked : r ≡ refusal table) where
+  -- a table that is refused
+  module _ (bad : r ≡ 0 → ⊥) (s : List ℕ) where
+    pub fresh-table-refused : (r ≡ freshAnswer table s) × (s ≡ freshBytes table s)
+    unfolding freshAnswer freshBytes
+    fresh-table-refused = (rw (sym checked, ne-eqb r 0 bad), rw (sym checked, ne-eqb r 0 bad, ne-eqb r 0 bad))
+
+    pub step-table-refused : (step : List ℕ) → (r ≡ stepAnswer table s step) × (s ≡ stepBytes table s step)
+    unfolding stepAnswer stepBytes
+    step-table-refused step = (rw (sym checked, ne-eqb r 0 bad), rw (sym checked, ne-eqb r 0 bad, ne-eqb r 0 bad))
+
+  -- a table that is taken
+  module _ (good : r ≡ 0) where
+    fit : refusal table ≡ 0
+    fit = sym checked ∙ good
+
+    pub room-of : Room (headOf table)
+    room-of = let S = sound table fit in record { peers = S .peers-most; periods = S .periods-most; items = S .items-most }
+
+    pub room-read : (h : Head) → h ≡ headOf table → Room h
+    room-read h e = subst (λ h. Room h) (sym e) room-of
+
+    pub items-read : (h : Head) → h ≡ headOf table → h .items ≡ itemsOf table
+    items-read h e = ap (λ (h : Head). h .items) e
+
+    module _ (s : List ℕ) where
+      pub fresh-length-refused : (length s ≡ size → ⊥) → (14 ≡ freshAnswer table s) × (s ≡ freshBytes table s)
+      unfolding freshAnswer freshBytes
+      fresh-length-refused n = (rw (fit, ne-eqb (length s) size n), rw (fit, ne-eqb (length s) size n))
+
+      pub fresh-made : (t : List ℕ) → length s ≡ size → t ≡ replicate (length s) 0 → (0 ≡ freshAnswer table s) × (t ≡ freshBytes table s)
+      unfolding freshAnswer freshBytes freshState
+      fresh-made t e z = (rw (fit, eq-eqb (length s) size e), rw (fit, eq-eqb (length s) size e) (z ∙ ap (λ (n : ℕ). replicate n 0) e))
+
+      module _ (h : Head) (head : h ≡ headOf table) {ok : Bool} (tested : ok ≡ stateOk h s) where
+        state-test : ok ≡ stateOk (headOf table) s
+        state-test = tested ∙ ap (λ h. stateOk h s) head
+
+        pub ready-read : Bytes s → ok ≡ true → Ready h (clashIn table) s
+        ready-read bytes y = ready-of-ok h (clashIn table) s (room-read h head) bytes (sym tested ∙ y)
+
+        module _ (step : List ℕ) where
+          pub step-state-refused : ok ≡ false → (14 ≡ stepAnswer table s step) × (s ≡ stepBytes table s step)
+          unfolding stepAnswer stepBytes
+          step-state-refused n = (rw (fit, sym state-test, n), rw (fit, sym state-test, n))
+
+          pub step-form-refused : ok ≡ true → (c : Call) → c ≡ read step → c ≡ Malformed → (5 ≡ stepAnswer table s step) × (s ≡ stepBytes table s step)
+          unfolding stepAnswer stepBytes reply
+          step-form-refused y c e m = (rw (fit, sym state-test, y, sym e, m), rw (fit, sym state-test, y, sym e, m))
+
+          pub step-judged : ok ≡ true → (c : Call) → c ≡ read step → (st : Step) → c ≡ Formed st → (t : List ℕ) (a : ℕ) → Stepped h (clashIn table) s t st a → (a ≡ stepAnswer table s step) × (t ≡ stepBytes table s step)
+          unfolding stepAnswer stepBytes reply leaveOn
+          step-judged y c e st m t a p =
+              let q = subst (λ h. Stepped h (clashIn table) s t st a) head p in
+              (rw (fit, sym state-test, y, sym e, m) (q .answers), rw (fit, sym state-test, y, sym e, m, sym (q .answers)) (q .leaves))

@@ -1,0 +1,5 @@
+pub mod Fits
+pub mod Start
+pub mod Steps
+pub mod Zeros
+pub mod Calls

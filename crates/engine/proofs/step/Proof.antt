@@ -1,0 +1,87 @@
+-- The first refusal of the table, the state or the form, or the inner step.
+use borrow.Author.Needs.{needs}
+use borrow.Author.Tests.{not-true, not-false}
+use Rattle.engine.proofs.Calls.{step-table-refused, room-read, step-state-refused, ready-read, items-read, step-judged, step-form-refused}
+use Rattle.engine.proofs.step.Statement.{statement}
+use Rattle.engine.proofs.step.Tie as tie
+
+check-table-requires : tie.Need-check-table-requires
+check-table-requires c κs = search needs
+
+returns : tie.Need-returns
+returns c = step-table-refused _ (c .before .check-table .ensures) (c .if1 .taken) _ _
+
+head-of-requires : tie.Need-head-of-requires
+head-of-requires c κs = search needs
+
+state-ok-requires : tie.Need-state-ok-requires
+state-ok-requires c κs = search room-read
+
+same-length : tie.Need-same-length
+same-length c = search needs
+
+returns-2 : tie.Need-returns-2
+returns-2 c =
+    let table = c .before .before .before .before .before .check-table .ensures in
+    let good = c .before .before .before .before .if1 .left in
+    let head = c .before .before .before .head-of .ensures in
+    let tested = c .before .state-ok .ensures in
+    step-state-refused _ table good _ _ head tested _ (not-true _ (c .if2 .taken))
+
+read-step-requires : tie.Need-read-step-requires
+read-step-requires c κs = search needs
+
+enum-known-st : tie.Need-enum-known-st
+enum-known-st c = search needs
+
+advance-requires : tie.Need-advance-requires
+advance-requires c κs =
+    let table = c .before .before .before .before .before .before .before .before .before .before .check-table .ensures in
+    let good = c .before .before .before .before .before .before .before .before .before .if1 .left in
+    let head = c .before .before .before .before .before .before .before .before .head-of .ensures in
+    let tested = c .before .before .before .before .before .before .state-ok .ensures in
+    (ready-read _ table good _ _ head tested (λ k. c .before .before .before .before .before .before .before .before .before .before .before .before .slice-known .given k .fits) (not-false _ (c .before .before .before .before .before .if2 .left)), items-read _ table good _ head)
+
+enum-told : tie.Need-enum-told
+enum-told c = search needs
+
+same-length-2 : tie.Need-same-length-2
+same-length-2 c = search needs
+
+returns-3 : tie.Need-returns-3
+returns-3 c =
+    let table = c .before .before .before .before .before .before .before .before .before .before .before .before .before .check-table .ensures in
+    let good = c .before .before .before .before .before .before .before .before .before .before .before .before .if1 .left in
+    let head = c .before .before .before .before .before .before .before .before .before .before .before .head-of .ensures in
+    let tested = c .before .before .before .before .before .before .before .before .before .state-ok .ensures in
+    step-judged _ table good _ _ head tested _ (not-false _ (c .before .before .before .before .before .before .before .before .if2 .left)) _ (c .before .before .before .before .before .before .before .read-step .ensures) _ (search needs) _ _ (c .before .before .advance .ensures)
+
+same-length-3 : tie.Need-same-length-3
+same-length-3 c = search needs
+
+returns-4 : tie.Need-returns-4
+returns-4 c =
+    let table = c .before .before .before .before .before .before .before .before .check-table .ensures in
+    let good = c .before .before .before .before .before .before .before .if1 .left in
+    let head = c .before .before .before .before .before .before .head-of .ensures in
+    let tested = c .before .before .before .before .state-ok .ensures in
+    step-form-refused _ table good _ _ head tested _ (not-false _ (c .before .before .before .if2 .left)) _ (c .before .before .read-step .ensures) (search needs)
+
+pub step-spec : {M : Type 1} → statement M
+step-spec =
+    tie.close
+    (tie.spec
+    check-table-requires
+    returns
+    head-of-requires
+    state-ok-requires
+    same-length
+    returns-2
+    read-step-requires
+    enum-known-st
+    advance-requires
+    enum-told
+    same-length-2
+    returns-3
+    same-length-3
+    returns-4)

@@ -1,0 +1,56 @@
+-- The engine on bytes: for any table, state buffer and step, the answer and the buffer after the call.
+use Prim.Native.Nat.{ℕ}
+use mathlib.Core.Bool.{cond}
+use mathlib.Core.List.{List}
+use lib.Dec.{eqb}
+use lib.ListN.{length, replicate}
+use Rattle.ballot.specs.Header.{peersOf, thresholdOf, honestOf, periodsOf, itemsOf}
+use Rattle.ballot.specs.Clash.{clashIn}
+use Rattle.ballot.specs.Table.{refusal}
+use Rattle.rules.specs.declared.Call.{Call}
+use Rattle.rules.specs.declared.Call.the-variants.{Formed, Malformed}
+use Rattle.rules.specs.Table.{Table}
+use Rattle.rules.specs.Form.{read}
+use Rattle.rules.specs.Rules.{reply}
+use Rattle.state.specs.Layout.{size}
+use Rattle.state.specs.Contents.{Contents, contents}
+use Rattle.state.specs.Encode.{encode}
+use Rattle.view.specs.declared.Head.{Head}
+use Rattle.view.specs.View.{tableOf, stateOf}
+use Rattle.view.specs.Effect.{effectOn}
+use Rattle.valid.specs.StateOk.{stateOk}
+
+-- the header of a table
+abbrev pub headOf : List ℕ → Head
+headOf table = record { n = peersOf table; t = thresholdOf table; honest = honestOf table; periods = periodsOf table; items = itemsOf table }
+
+-- a table's bytes as the table of the rules
+abbrev pub boardTable : List ℕ → Table
+boardTable table = tableOf (headOf table) (clashIn table)
+
+-- what a call that is not refused does to the contents
+unfoldable pub leaveOn : Table → Contents → Call → Contents
+leaveOn T c (Formed st) = effectOn T c st
+leaveOn T c Malformed = c
+
+-- step: the table's refusals 1 to 4, then 14, then 5 and on
+unfoldable pub stepAnswer : List ℕ → List ℕ → List ℕ → ℕ
+stepAnswer table s step =
+    cond (eqb (refusal table) 0)
+    (cond (stateOk (headOf table) s) (reply (boardTable table) (stateOf (contents s)) (read step)) 14)
+    (refusal table)
+
+-- a refused call alters nothing
+unfoldable pub stepBytes : List ℕ → List ℕ → List ℕ → List ℕ
+stepBytes table s step = cond (eqb (stepAnswer table s step) 0) (encode (leaveOn (boardTable table) (contents s) (read step))) s
+
+-- fresh: the table's refusals 1 to 4, then the buffer's length only
+unfoldable pub freshAnswer : List ℕ → List ℕ → ℕ
+freshAnswer table s = cond (eqb (refusal table) 0) (cond (eqb (length s) size) 0 14) (refusal table)
+
+-- the bytes of the fresh state
+unfoldable pub freshState : List ℕ
+freshState = replicate size 0
+
+unfoldable pub freshBytes : List ℕ → List ℕ → List ℕ
+freshBytes table s = cond (eqb (freshAnswer table s) 0) freshState s

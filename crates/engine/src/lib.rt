@@ -1,0 +1,66 @@
+// The engine: fresh and step, for any bytes. The table and the state are validated once for each call; the inner step re-validates nothing.
+ghost use mathlib.Core.Path.{_≡_};
+ghost use lib.ListN.{length, replicate};
+ghost use Rattle.engine.specs.Engine.{headOf, stepAnswer, stepBytes, freshAnswer, freshBytes};
+use ballot::check_table;
+use ballot::header;
+use rules::Call;
+use state::layout::SIZE;
+use view::Head;
+
+// The header of a table, read once.
+fn head_of(table: &[u8]) -> Head
+    ensures { λ r. ⌜ r ≡ headOf (now (table .entry)) ⌝ }
+{
+    Head {
+        n: header::peers(table),
+        t: header::threshold(table),
+        honest: header::honest(table),
+        periods: header::periods(table),
+        items: header::items(table),
+    }
+}
+
+// Writes 0 in every byte.
+fn clear(s: &mut [u8])
+    ensures { λ _. ⌜ now (s .exit) ≡ replicate (length (now (s .entry))) 0 ⌝ }
+{
+    let mut i = 0;
+    while i < s.len() {
+        s[i] = 0;
+        i += 1;
+    }
+}
+
+// Makes a state buffer fresh. It answers 1 to 4 for the table, or 14 for the buffer's length; what is refused alters nothing.
+pub fn fresh(table: &[u8], s: &mut [u8]) -> u8
+    ensures { λ r. ⌜ (r ≡ freshAnswer (now (table .entry)) (now (s .entry))) × (now (s .exit) ≡ freshBytes (now (table .entry)) (now (s .entry))) ⌝ }
+{
+    let refusal = check_table(table);
+    if refusal != 0 {
+        return refusal;
+    }
+    if s.len() != SIZE {
+        return 14;
+    }
+    clear(s);
+    0
+}
+
+// Takes a step, or answers the first refusal that applies; what is refused alters nothing.
+pub fn step(table: &[u8], s: &mut [u8], step: &[u8]) -> u8
+    ensures { λ r. ⌜ (r ≡ stepAnswer (now (table .entry)) (now (s .entry)) (now (step .entry))) × (now (s .exit) ≡ stepBytes (now (table .entry)) (now (s .entry)) (now (step .entry))) ⌝ }
+{
+    let refusal = check_table(table);
+    if refusal != 0 {
+        return refusal;
+    }
+    let h = head_of(table);
+    if !valid::state_ok(s, h) {
+        return 14;
+    }
+    match rules::read_step(step) {
+        Call::Formed(st) => advance::advance(table, s, h, st),
+        Call::Malformed => 5,
+    }
+}

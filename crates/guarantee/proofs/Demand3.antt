@@ -1,0 +1,60 @@
+-- Demand 3, over table bytes and lists of byte lists: for every table that is taken and has at least t honest peers.
+use Prim.Native.Nat.{ℕ, zero, suc, _≤_}
+use native.Mathlib.Omega.{arith}
+use mathlib.Core.List.{List, [], _∷_}
+use mathlib.Core.Path.{_≡_, refl, sym, ap, ap₂, subst, fun-ext, _∙_}
+use Rattle.base.specs.Weight.{ones}
+use Rattle.base.proofs.Weight.{weight-ext}
+use Rattle.ballot.specs.Header.{peersOf, thresholdOf, honestOf, isHonest, honestCount}
+use Rattle.ballot.specs.Clash.{clashIn}
+use Rattle.ballot.specs.Table.{refusal}
+use Rattle.ballot.proofs.Clashes.{clash-in-sym, clash-in-self}
+use Rattle.ballot.proofs.Sound.{sound}
+use Rattle.rules.specs.Table.{Table}
+use Rattle.rules.specs.State.{State, fresh}
+use Rattle.rules.specs.Form.{read}
+use Rattle.rules.specs.Ideal.{Fed}
+use Rattle.rules.specs.Run.{World, seenWith, runFrom, run}
+use Rattle.rules.specs.Demand3.{Premise, Safe}
+use Rattle.rules.proofs.Demand3.{demand-3, counted}
+use Rattle.rules.proofs.Runs.{ruled}
+use Rattle.state.specs.Contents.{contents}
+use Rattle.view.specs.View.{member, stateOf}
+use Rattle.valid.specs.Ready.{Ready}
+use Rattle.engine.specs.Engine.{headOf, boardTable, stepAnswer, stepBytes, freshState}
+use Rattle.engine.proofs.Calls.{room-of}
+use Rattle.engine.proofs.Start.{fresh-state, fresh-ready}
+use Rattle.engine.proofs.Steps.{step-answers, step-leaves}
+use Rattle.guarantee.specs.Calls.{afterCalls}
+
+module _ (table : List ℕ) (fit : refusal table ≡ 0) where
+  abbrev T : Table
+  T = boardTable table
+
+  -- the engine's calls are the rules' calls, from any state that is ready
+  follows : (calls : List (List ℕ)) (s : List ℕ) (seen : List Fed) → Ready (headOf table) (clashIn table) s
+      → runFrom (λ s. stateOf (contents s)) (stepAnswer table) (stepBytes table) s seen calls ≡ ruled T (stateOf (contents s)) seen calls
+  unfolding runFrom
+  follows [] s seen R = refl
+  follows (c ∷ calls) s seen R =
+      let left = step-leaves table fit s R c in
+      follows calls (stepBytes table s c) (seenWith seen (contents s .bag) (read c) (stepAnswer table s c)) (left .ready)
+      ∙ ap₂ (λ (t : State) (a : ℕ). ruled T t (seenWith seen (contents s .bag) (read c) a) calls) (left .holds) (step-answers table fit s R c)
+
+  -- so they are from the fresh state
+  as-ruled : (calls : List (List ℕ)) → afterCalls table calls ≡ run T calls
+  unfolding afterCalls run
+  as-ruled calls = follows calls freshState [] (fresh-ready (headOf table) (clashIn table) (room-of table (sym fit) refl)) ∙ ap (λ (s : State). ruled T s [] calls) fresh-state
+
+  honest-same : (k : ℕ) → isHonest table k ≡ member (honestOf table) k
+  unfolding isHonest member
+  honest-same zero = refl
+  honest-same (suc k) = refl
+
+  premise : thresholdOf table ≤ honestCount table → Premise T
+  premise enough = counted T refl (sound table fit .threshold-rule)
+      (omega (arith, enough, weight-ext ones (peersOf table) (isHonest table) (member (honestOf table)) (λ k l m. honest-same k)))
+      (clash-in-sym table) (clash-in-self table)
+
+  pub demand-3-on-bytes : thresholdOf table ≤ honestCount table → (calls : List (List ℕ)) → Safe T (afterCalls table) calls
+  demand-3-on-bytes enough calls = subst (λ (after : List (List ℕ) → World). Safe T after calls) (sym (fun-ext as-ruled)) (demand-3 T (premise enough) calls)
