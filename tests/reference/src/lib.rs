@@ -7,12 +7,14 @@
 //! - `table`: the ballot table, its items, the clash, the thresholds
 //! - `state`: what is held outside and by each peer
 //! - `form`: 13 bytes as a step, or 5
+//! - `refusals`: the refusals that several ops share
 //! - `step`: the refusals of each op in their order, and its effect
 //! - `report`: the rehearsal, from input bytes to output bytes
 //! - `ideal`: the ideal board
 
 pub mod form;
 pub mod ideal;
+mod refusals;
 pub mod report;
 pub mod state;
 pub mod step;

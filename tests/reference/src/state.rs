@@ -1,6 +1,7 @@
 //! What is held outside and by each peer, in plain sets and counters.
 
 use crate::table::Table;
+use crate::Refusal;
 use std::collections::{BTreeMap, BTreeSet};
 
 /// A board, and what stands for its hash: a set of items.
@@ -80,6 +81,26 @@ impl State {
     /// The number of peers whose receipt share on the item is outside.
     pub fn sharers(&self, period: usize, item: usize) -> usize {
         self.shares.iter().filter(|share| share.1 == period && share.2 == item).count()
+    }
+
+    /// The entry enters the bag, if it is not there. 13: 256 others are.
+    pub fn enter(&mut self, entry: Entry) -> Result<(), Refusal> {
+        if self.bag.contains(&entry) {
+            return Ok(());
+        }
+        if self.bag.len() >= BAG_SIZE {
+            return Err(Refusal::Full);
+        }
+        self.bag.push(entry);
+        Ok(())
+    }
+
+    /// The period and board of a backing, by its entry number.
+    pub fn backing(&self, entry: usize) -> Option<(usize, Board)> {
+        match self.bag.get(entry) {
+            Some(Entry::Backing { period, board, .. }) => Some((*period, board.clone())),
+            _ => None,
+        }
     }
 
     /// The published boards with their periods, in bag order.

@@ -4,12 +4,11 @@
 //! sets; the bag sees to that itself.
 
 use crate::form::{read_step, Step};
-use crate::state::{Board, Entry, State, BAG_SIZE};
+use crate::refusals::*;
+use crate::state::{Board, Entry, State};
 use crate::table::Table;
 use crate::Refusal;
 use std::collections::BTreeSet;
-
-type Done = Result<(), Refusal>;
 
 /// A step call with any bytes: its answer. A refused call alters nothing.
 pub fn step(table: &Table, state: &mut State, bytes: &[u8]) -> u8 {
@@ -41,90 +40,9 @@ fn run(table: &Table, state: &mut State, step: Step) -> Done {
         Step::FalseBacking { peer, period, board } => {
             false_backing(table, state, peer, period, board)
         }
-        Step::Down { peer } => set_up(table, state, peer, false),
-        Step::Up { peer } => set_up(table, state, peer, true),
+        Step::Down { peer } => down(table, state, peer),
+        Step::Up { peer } => up(table, state, peer),
     }
-}
-
-// The refusals that several ops share.
-
-fn refuse_if(bad: bool, refusal: Refusal) -> Done {
-    if bad {
-        Err(refusal)
-    } else {
-        Ok(())
-    }
-}
-
-/// 6: a peer (or other) not in 1..n.
-fn name_peer(table: &Table, peer: usize) -> Done {
-    refuse_if(!(1..=table.n).contains(&peer), Refusal::Name)
-}
-
-/// 6: a period not below P.
-fn name_period(table: &Table, period: usize) -> Done {
-    refuse_if(period >= table.periods, Refusal::Name)
-}
-
-/// 6: an item not below m.
-fn name_item(table: &Table, item: usize) -> Done {
-    refuse_if(item >= table.m(), Refusal::Name)
-}
-
-/// 6: a board bit m or above. Else the board.
-fn name_board(table: &Table, bits: u64) -> Result<Board, Refusal> {
-    let board: Board = (0..64).filter(|i| bits >> i & 1 == 1).collect();
-    for item in &board {
-        name_item(table, *item)?;
-    }
-    Ok(board)
-}
-
-/// 7: an honest peer needed.
-fn need_honest(table: &Table, peer: usize) -> Done {
-    refuse_if(!table.is_honest(peer), Refusal::Role)
-}
-
-/// 7: a dishonest peer needed.
-fn need_dishonest(table: &Table, peer: usize) -> Done {
-    refuse_if(table.is_honest(peer), Refusal::Role)
-}
-
-/// 8: the peer is down.
-fn need_up(state: &State, peer: usize) -> Done {
-    refuse_if(!state.peer(peer).up, Refusal::Down)
-}
-
-/// 9: no period open. Else p, the open one.
-fn need_open(table: &Table, state: &State, peer: usize) -> Result<usize, Refusal> {
-    let p = state.peer(peer).p;
-    refuse_if(p >= table.periods, Refusal::Period)?;
-    Ok(p)
-}
-
-/// 9: the peer has not closed the period.
-fn need_closed(state: &State, peer: usize, period: usize) -> Done {
-    refuse_if(period >= state.peer(peer).p, Refusal::Period)
-}
-
-/// 10: the item is not posted.
-fn need_posted(state: &State, item: usize) -> Done {
-    refuse_if(!state.posted.contains(&item), Refusal::Unknown)
-}
-
-/// 12: fewer than t.
-fn need_threshold(table: &Table, count: usize) -> Done {
-    refuse_if(count < table.t, Refusal::Short)
-}
-
-/// The entry enters the bag, if it is not there. 13: 256 others are.
-fn enter(state: &mut State, entry: Entry) -> Done {
-    if state.bag.contains(&entry) {
-        return Ok(());
-    }
-    refuse_if(state.bag.len() >= BAG_SIZE, Refusal::Full)?;
-    state.bag.push(entry);
-    Ok(())
 }
 
 // The ops, in document 01's order.
@@ -249,7 +167,7 @@ fn hash(table: &Table, state: &mut State, j: usize, period: usize) -> Done {
     need_up(state, j)?;
     need_closed(state, j, period)?;
     let board = state.peer(j).board(period, table.t);
-    enter(state, Entry::Hash { signer: j, period, board })
+    state.enter(Entry::Hash { signer: j, period, board })
 }
 
 /// 10 hear: j notes a hash entry of a closed period. This op judges 10
@@ -285,7 +203,7 @@ fn back(table: &Table, state: &mut State, j: usize) -> Done {
         }
     }
     need_threshold(table, signers.len())?;
-    enter(state, Entry::Backing { signer: j, period, board })?;
+    state.enter(Entry::Backing { signer: j, period, board })?;
     state.peer_mut(j).c += 1;
     Ok(())
 }
@@ -293,7 +211,7 @@ fn back(table: &Table, state: &mut State, j: usize) -> Done {
 /// 12 publish: t different signers back the same period and board as this
 /// backing; the board enters the bag.
 fn publish(table: &Table, state: &mut State, entry: usize) -> Done {
-    let Some((period, board)) = backing(state, entry) else {
+    let Some((period, board)) = state.backing(entry) else {
         return Err(Refusal::Unknown);
     };
     let mut signers = BTreeSet::new();
@@ -305,27 +223,80 @@ fn publish(table: &Table, state: &mut State, entry: usize) -> Done {
         }
     }
     need_threshold(table, signers.len())?;
-    enter(state, Entry::Board { period, board })
-}
-
-/// The period and board of a backing, by its entry number.
-pub fn backing(state: &State, entry: usize) -> Option<(usize, Board)> {
-    match state.bag.get(entry) {
-        Some(Entry::Backing { period, board, .. }) => Some((*period, board.clone())),
-        _ => None,
-    }
+    state.enter(Entry::Board { period, board })
 }
 
 /// 13 false signature: a dishonest peer's, over a posted item.
-fn false_signature(table: &Table, state: &mut State, peer: usize, period: usize, item: usize) -> Done {
-    judge_false(table, state, peer, period, &[item])?;
+fn false_signature(
+    table: &Table,
+    state: &mut State,
+    peer: usize,
+    period: usize,
+    item: usize,
+) -> Done {
+    judge_false(table, state, peer, period, item)?;
     state.signatures.insert((peer, period, item));
     Ok(())
 }
 
 /// 14 false share: a dishonest peer's, over a posted item.
 fn false_share(table: &Table, state: &mut State, peer: usize, period: usize, item: usize) -> Done {
-    judge_false(table, state, peer, period, &[item])?;
+    judge_false(table, state, peer, period, item)?;
     state.shares.insert((peer, period, item));
+    Ok(())
+}
+
+/// The refusals of 13 and 14.
+fn judge_false(table: &Table, state: &State, peer: usize, period: usize, item: usize) -> Done {
+    name_peer(table, peer)?;
+    name_period(table, period)?;
+    name_item(table, item)?;
+    need_dishonest(table, peer)?;
+    need_posted(state, item)
+}
+
+/// 15 false hash: a dishonest peer's, over posted items only.
+fn false_hash(table: &Table, state: &mut State, peer: usize, period: usize, bits: u64) -> Done {
+    let board = judge_false_board(table, state, peer, period, bits)?;
+    state.enter(Entry::Hash { signer: peer, period, board })
+}
+
+/// 16 false backing: a dishonest peer's, over posted items only.
+fn false_backing(table: &Table, state: &mut State, peer: usize, period: usize, bits: u64) -> Done {
+    let board = judge_false_board(table, state, peer, period, bits)?;
+    state.enter(Entry::Backing { signer: peer, period, board })
+}
+
+/// The refusals of 15 and 16, up to 10. Else the board.
+fn judge_false_board(
+    table: &Table,
+    state: &State,
+    peer: usize,
+    period: usize,
+    bits: u64,
+) -> Result<Board, Refusal> {
+    name_peer(table, peer)?;
+    name_period(table, period)?;
+    let board = name_board(table, bits)?;
+    need_dishonest(table, peer)?;
+    for item in &board {
+        need_posted(state, *item)?;
+    }
+    Ok(board)
+}
+
+/// 17 down.
+fn down(table: &Table, state: &mut State, j: usize) -> Done {
+    name_peer(table, j)?;
+    need_honest(table, j)?;
+    state.peer_mut(j).up = false;
+    Ok(())
+}
+
+/// 18 up. The peer kept its state.
+fn up(table: &Table, state: &mut State, j: usize) -> Done {
+    name_peer(table, j)?;
+    need_honest(table, j)?;
+    state.peer_mut(j).up = true;
     Ok(())
 }

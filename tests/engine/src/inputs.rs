@@ -1,0 +1,196 @@
+//! Random tables, and random steps of which many are taken.
+
+use crate::layout::bits;
+use crate::random::Random;
+use reference::form::{write_step, Step};
+use reference::state::{Entry, State};
+use reference::table::Table;
+
+const LEAST_THRESHOLD: [usize; 16] = [1, 2, 3, 3, 4, 5, 5, 6, 7, 7, 8, 9, 9, 10, 11, 11];
+
+/// How often each op is chosen: as often as it is here.
+const OPS: [u8; 38] = [
+    1, 1, 1, 2, 2, 2, 3, 3, 3, 4, 4, 4, 4, 5, 5, 5, 6, 6, 7, 8, 8, 9, 9, 10, 10, 10, 11, 11, 12,
+    12, 13, 14, 15, 16, 17, 18, 18, 18,
+];
+
+/// The bytes of a valid table with at most so many peers.
+pub fn random_table(random: &mut Random, most_peers: usize) -> Vec<u8> {
+    let n = random.between(1, most_peers);
+    let least = LEAST_THRESHOLD[n - 1];
+    let t = if random.once_in(3) { random.between(least, n) } else { least };
+    let all = u16::MAX >> (16 - n);
+    let some = random.bits() as u16;
+    let honest = all & [all, some, some | random.bits() as u16, 0][random.below(31) / 10];
+    let most_items = [3, 6, 12, 64][random.below(4)];
+    let m = random.between(0, most_items);
+    let items = random_items(random, m);
+    table_bytes(n, t, honest, random.between(1, 8), &items)
+}
+
+/// Different items, of few ballot numbers.
+fn random_items(random: &mut Random, m: usize) -> Vec<Vec<u8>> {
+    let mut items: Vec<Vec<u8>> = Vec::new();
+    while items.len() < m {
+        let mut item = (random.below(1 + m / 3) as u32).to_be_bytes().to_vec();
+        item.push([1, 1, 2, 3][random.below(4)]);
+        if item[4] == 1 {
+            let most = [1, 2, 32][random.below(3)];
+            let length = random.between(1, most);
+            item.extend(random.bytes(length));
+        }
+        if !items.contains(&item) {
+            items.push(item);
+        }
+    }
+    items
+}
+
+/// The bytes of a table, its fields in document 01's order.
+fn table_bytes(n: usize, t: usize, honest: u16, periods: usize, items: &[Vec<u8>]) -> Vec<u8> {
+    let [high, low] = honest.to_be_bytes();
+    let mut bytes = vec![n as u8, t as u8, high, low, periods as u8, items.len() as u8];
+    let mut offset = 6 + 4 * items.len();
+    for item in items {
+        bytes.extend((offset as u16).to_be_bytes());
+        bytes.extend((item.len() as u16).to_be_bytes());
+        offset += item.len();
+    }
+    bytes.extend(items.concat());
+    bytes
+}
+
+/// The next steps of a run: one step, or the same one for all peers.
+pub fn random_steps(random: &mut Random, table: &Table, state: &State) -> Vec<Vec<u8>> {
+    let choice = random.below(100);
+    let step = match choice {
+        0..=12 => uniform(random, table),
+        _ => likely(random, table, state).to_vec(),
+    };
+    if choice % 20 == 5 {
+        vec![malformed(random, step)]
+    } else if choice > 70 && (2..=11).contains(&step[0]) && step[0] != 6 {
+        sweep(&step, table.n)
+    } else {
+        vec![step]
+    }
+}
+
+/// The step for each peer, and a take for each other too.
+fn sweep(step: &[u8], n: usize) -> Vec<Vec<u8>> {
+    let mut steps = Vec::new();
+    for peer in 1..=n as u8 {
+        let others = if step[0] == 4 { 1..=n as u8 } else { step[2]..=step[2] };
+        steps.extend(others.map(|other| [&[step[0], peer, other], &step[3..]].concat()));
+    }
+    steps
+}
+
+/// Bytes that are mostly no step: a wrong length, any op, or one byte changed.
+fn malformed(random: &mut Random, mut step: Vec<u8>) -> Vec<u8> {
+    match random.below(3) {
+        0 => step.resize(random.between(0, 20), 0),
+        1 => step[0] = random.bits() as u8,
+        _ => step[random.below(13)] = random.bits() as u8,
+    }
+    step
+}
+
+/// Whether an op names peer, other, period and item (or entry).
+fn fields(op: u8) -> [bool; 4] {
+    let peer = ![1, 6, 12].contains(&op);
+    let other = [4, 8].contains(&op);
+    let period = [4, 6, 8, 9, 13, 14, 15, 16].contains(&op);
+    let item = ![7, 8, 9, 11, 15, 16, 17, 18].contains(&op);
+    [peer, other, period, item]
+}
+
+/// Any op, with its fields anywhere in range or one beyond.
+fn uniform(random: &mut Random, table: &Table) -> Vec<u8> {
+    let op = random.between(1, 18) as u8;
+    let ends = [table.n + 1, table.n + 1, table.periods, table.m()];
+    let mut step = vec![op];
+    for (named, end) in fields(op).into_iter().zip(ends) {
+        step.push(if named { random.between(0, end) as u8 } else { 0 });
+    }
+    let reach = !(u64::MAX << 1 << table.m().min(63));
+    let board = if op == 15 || op == 16 { random.bits() & random.bits() & reach } else { 0 };
+    step.extend(board.to_be_bytes());
+    step
+}
+
+/// A step with fields that the state makes likely to be taken.
+fn likely(random: &mut Random, table: &Table, state: &State) -> [u8; 13] {
+    let op = OPS[random.below(OPS.len())];
+    let peer = random.pick(table.honest.iter().copied()).unwrap_or(1);
+    let other = random.pick(table.honest.iter().copied()).unwrap_or(1);
+    let (up_to, posted) = (state.peer(peer).p, random.pick(state.posted.iter().copied()));
+    let item = posted.unwrap_or(0);
+    let closed = random.below(up_to);
+    write_step(match op {
+        1 => Step::Post { item: random.below(table.m()) },
+        2 => Step::Hand { peer, item },
+        3 => {
+            let held = state.peer(peer).held.iter().filter(|held| held.0 == up_to);
+            Step::Sign { peer, item: random.pick(held).map_or(item, |held| held.1) }
+        }
+        4 => {
+            let signature = random.pick(state.signatures.iter().copied());
+            let (other, period, item) = signature.unwrap_or((other, closed, item));
+            Step::Take { peer, other, period, item }
+        }
+        5 => {
+            let known = state.peer(peer).database.keys().filter(|key| key.0 == up_to);
+            Step::Share { peer, item: random.pick(known).map_or(item, |key| key.1) }
+        }
+        6 => {
+            let share = random.pick(state.shares.iter().copied());
+            let (_, period, item) = share.unwrap_or((0, closed, item));
+            Step::Receipt { period, item }
+        }
+        7 => Step::Close { peer },
+        8 => Step::Fetch { peer, other, period: closed },
+        9 => Step::Hash { peer, period: [closed, state.peer(peer).c][random.below(2)] },
+        10 => Step::Hear { peer, entry: pick_hash(random, table, state, peer) },
+        11 => Step::Back { peer },
+        12 => Step::Publish { entry: pick_backing(random, state) },
+        13..=16 => false_step(random, table, state, op, item),
+        17 => Step::Down { peer },
+        _ => {
+            let down = table.honest.iter().filter(|j| !state.peer(**j).up);
+            Step::Up { peer: random.pick(down).copied().unwrap_or(peer) }
+        }
+    })
+}
+
+/// The number of a hash entry; mostly one that helps the peer to back.
+fn pick_hash(random: &mut Random, table: &Table, state: &State, peer: usize) -> usize {
+    let next = state.peer(peer).c;
+    let own = state.peer(peer).board(next, table.t);
+    let any = random.once_in(3);
+    let fits = |e: &usize| match &state.bag[*e] {
+        Entry::Hash { period, board, .. } => any || *period == next && *board == own,
+        _ => false,
+    };
+    random.pick((0..state.bag.len()).filter(fits)).unwrap_or(0)
+}
+
+fn pick_backing(random: &mut Random, state: &State) -> usize {
+    let backing = |e: &usize| state.backing(*e).is_some();
+    random.pick((0..state.bag.len()).filter(backing)).unwrap_or(0)
+}
+
+fn false_step(random: &mut Random, table: &Table, state: &State, op: u8, item: usize) -> Step {
+    let peer = random.pick((1..=table.n).filter(|k| !table.is_honest(*k))).unwrap_or(1);
+    let period = random.below(table.periods);
+    let (period, board) = match random.pick(state.bag.iter()) {
+        Some(Entry::Hash { period, board, .. }) if random.once_in(2) => (*period, bits(board)),
+        _ => (period, random.bits() & bits(&state.posted)),
+    };
+    match op {
+        13 => Step::FalseSignature { peer, period, item },
+        14 => Step::FalseShare { peer, period, item },
+        15 => Step::FalseHash { peer, period, board },
+        _ => Step::FalseBacking { peer, period, board },
+    }
+}

@@ -1,0 +1,45 @@
+//! The proved engine, called as C calls it, and what its tests need to compare
+//! it with the plain reference.
+//!
+//! - `layout`: the state's bytes, from docs/STATE.md
+//! - `row14`: which bytes are a state, from document 01's row 14
+//! - `inputs`: random tables and steps
+//! - `pair`: engine and reference on the same calls
+//! - `random`: a small generator
+
+pub mod inputs;
+pub mod layout;
+pub mod pair;
+pub mod random;
+pub mod row14;
+
+mod c {
+    extern "C" {
+        pub fn board_state_length() -> usize;
+        pub fn board_fresh(table: *const u8, n: usize, state: *mut u8, m: usize) -> u8;
+        pub fn board_step(
+            table: *const u8,
+            table_length: usize,
+            state: *mut u8,
+            state_length: usize,
+            step: *const u8,
+            step_length: usize,
+        ) -> u8;
+    }
+}
+
+pub fn board_state_length() -> usize {
+    // It takes nothing and reads no memory.
+    unsafe { c::board_state_length() }
+}
+
+pub fn board_fresh(table: &[u8], state: &mut [u8]) -> u8 {
+    // Each pointer goes with its slice's length.
+    unsafe { c::board_fresh(table.as_ptr(), table.len(), state.as_mut_ptr(), state.len()) }
+}
+
+pub fn board_step(table: &[u8], state: &mut [u8], step: &[u8]) -> u8 {
+    let (at, length) = (state.as_mut_ptr(), state.len());
+    // Each pointer goes with its slice's length.
+    unsafe { c::board_step(table.as_ptr(), table.len(), at, length, step.as_ptr(), step.len()) }
+}

@@ -1,0 +1,139 @@
+//! Lent states, with bytes changed at random: 14 where row 14 says so, and
+//! elsewhere the same answers and bytes as the reference's.
+
+use engine::board_step;
+use engine::inputs::{random_steps, random_table};
+use engine::layout::*;
+use engine::pair::Pair;
+use engine::random::Random;
+use engine::row14::is_state;
+use reference::state::Entry;
+
+/// Verdicts, and the answers of the steps after a damage that passes.
+#[derive(Default)]
+struct Seen {
+    refused: [usize; PARTS.len()],
+    passed: [usize; PARTS.len()],
+    answers: [usize; 16],
+}
+
+/// The parts of the state: from one of these bytes to the next.
+const PARTS: [usize; 12] =
+    [POSTED, SIGNED, SHARED, RECEIPTED, HELD, DATABASES, HEARD, OPEN, NEXT, DOWN, COUNT, ENTRIES];
+
+/// A place in some part: near what the table and the bag use, or anywhere.
+fn place(random: &mut Random, pair: &Pair, part: usize) -> usize {
+    let (from, to) = (PARTS[part], PARTS.get(part + 1).copied().unwrap_or(LENGTH));
+    let (j, p) = (random.below(pair.table.n), random.below(pair.table.periods));
+    let (i, e) = (random.below(pair.table.m()), random.below(pair.state.bag.len() + 1));
+    let used = match from {
+        POSTED => i / 8,
+        SIGNED | SHARED => 2 * (64 * p + i),
+        RECEIPTED => 8 * p + i / 8,
+        HELD => 8 * (8 * j + p) + i / 8,
+        DATABASES => 2 * (64 * (8 * j + p) + i),
+        HEARD => 32 * j + e / 8,
+        ENTRIES => ENTRY_LENGTH * e + random.below(ENTRY_LENGTH),
+        _ => j,
+    };
+    let near = used + random.below(2);
+    let anywhere = random.below(to - from);
+    (from + [near, near, near, anywhere][random.below(4)]).min(to - 1)
+}
+
+/// Entries of every kind, as no steps may lead to, in a full or fuller bag.
+fn stuff(random: &mut Random, pair: &mut Pair) {
+    let m = pair.table.m();
+    for _ in 0..random.between(1, 800) {
+        let (signer, period) = (random.between(1, pair.table.n), random.below(pair.table.periods));
+        let bits = random.bits();
+        let board = (0..m).filter(|i| bits >> i & 1 == 1).collect();
+        let _full = pair.state.enter(match random.below(3) {
+            0 => Entry::Hash { signer, period, board },
+            1 => Entry::Backing { signer, period, board },
+            _ => Entry::Board { period, board },
+        });
+    }
+    pair.buffer = encode(&pair.state);
+}
+
+/// A byte that is likely to be in range, or just outside it.
+fn changed(random: &mut Random, byte: u8) -> u8 {
+    match random.below(5) {
+        0 => byte ^ 1 << random.below(8),
+        1 => byte.wrapping_add(1),
+        2 => byte.wrapping_sub(1),
+        3 => random.below(4) as u8,
+        _ => random.bits() as u8,
+    }
+}
+
+/// Changes 1 to 3 bytes, or makes an entry the copy of another; says in which
+/// part.
+fn damage(random: &mut Random, pair: &Pair, bytes: &mut [u8]) -> usize {
+    let count = pair.state.bag.len();
+    if count > 1 && random.once_in(20) {
+        let [from, to] = [0, 1].map(|_| ENTRIES + ENTRY_LENGTH * random.below(count));
+        let length = [1, 3, ENTRY_LENGTH][random.below(3)];
+        bytes.copy_within(from..from + length, to);
+        return PARTS.len() - 1;
+    }
+    let part = random.below(PARTS.len());
+    for _ in 0..random.between(1, 3) {
+        let at = place(random, pair, part);
+        bytes[at] = changed(random, bytes[at]);
+    }
+    part
+}
+
+/// A step on a damaged copy of the pair's state, and some more if it passes.
+fn judge(random: &mut Random, pair: &Pair, seen: &mut Seen) {
+    let mut bytes = pair.buffer.clone();
+    let part = damage(random, pair, &mut bytes);
+    if is_state(&pair.table, &bytes) {
+        seen.passed[part] += 1;
+        return follow(random, pair, bytes, seen);
+    }
+    seen.refused[part] += 1;
+    let before = bytes.clone();
+    let step = random_steps(random, &pair.table, &pair.state).remove(0);
+    let answer = board_step(&pair.text, &mut bytes, &step);
+    let places: Vec<usize> = (0..LENGTH).filter(|at| before[*at] != pair.buffer[*at]).collect();
+    assert_eq!(answer, 14, "table {:?}, damage at {places:?}", pair.text);
+    assert!(bytes == before, "a refused state changed");
+}
+
+/// Further steps on a lent state that passes.
+fn follow(random: &mut Random, pair: &Pair, buffer: Vec<u8>, seen: &mut Seen) {
+    let state = decode(&pair.table, &buffer);
+    assert!(encode(&state) == buffer);
+    let mut lent = Pair { text: pair.text.clone(), table: pair.table.clone(), state, buffer };
+    for _ in 0..6 {
+        for step in random_steps(random, &lent.table, &lent.state).iter().take(8) {
+            seen.answers[lent.call(step) as usize] += 1;
+        }
+    }
+}
+
+#[test]
+fn same_verdicts() {
+    let (mut seen, mut full) = (Seen::default(), 0);
+    for seed in 0..150 {
+        let mut random = Random::new(1_000_000 + seed);
+        let mut pair = Pair::fresh(random_table(&mut random, [3, 6, 16][seed as usize % 3]));
+        for round in 0..100 {
+            if round == 50 {
+                stuff(&mut random, &mut pair);
+                full += (pair.state.bag.len() == 256) as usize;
+            }
+            for step in random_steps(&mut random, &pair.table, &pair.state) {
+                pair.call(&step);
+            }
+            (0..4).for_each(|_| judge(&mut random, &pair, &mut seen));
+        }
+    }
+    println!("parts {PARTS:?}\nrefused {:?}\npassed {:?}", seen.refused, seen.passed);
+    println!("answers after passing {:?}, {full} full bags", seen.answers);
+    assert!(seen.refused.iter().chain(&seen.passed).all(|times| *times > 50));
+    assert!(seen.answers.iter().skip(5).take(9).all(|times| *times > 50) && full > 10);
+}

@@ -1,0 +1,149 @@
+//! Helpers of the tests: tables from parts, runs, a small random generator.
+#![allow(dead_code)]
+
+pub mod bursts;
+pub mod random_runs;
+
+use reference::form::{write_step, Step};
+use reference::state::State;
+use reference::step::step;
+use reference::table::{read_table, Table};
+
+pub fn vote(ballot: u32, preferences: &[u8]) -> Vec<u8> {
+    [&ballot.to_be_bytes()[..], &[1], preferences].concat()
+}
+
+pub fn audit(ballot: u32) -> Vec<u8> {
+    [&ballot.to_be_bytes()[..], &[2]].concat()
+}
+
+pub fn cancellation(ballot: u32) -> Vec<u8> {
+    [&ballot.to_be_bytes()[..], &[3]].concat()
+}
+
+/// A set of peers in two bytes, high byte first.
+pub fn peer_set(peers: &[usize]) -> [u8; 2] {
+    peers.iter().fold(0u16, |set, k| set | 1 << (k - 1)).to_be_bytes()
+}
+
+/// The bytes of a table, its fields in document 01's order.
+pub fn table_bytes(n: u8, t: u8, honest: &[usize], periods: u8, items: &[Vec<u8>]) -> Vec<u8> {
+    let set = peer_set(honest);
+    let mut bytes = vec![n, t, set[0], set[1], periods, items.len() as u8];
+    let mut offset = 6 + 4 * items.len();
+    for item in items {
+        bytes.extend((offset as u16).to_be_bytes());
+        bytes.extend((item.len() as u16).to_be_bytes());
+        offset += item.len();
+    }
+    bytes.extend(items.concat());
+    bytes
+}
+
+/// The bytes of a rehearsal: a table, then steps.
+pub fn rehearsal(table: &[u8], steps: &[Step]) -> Vec<u8> {
+    let mut input = table.to_vec();
+    for step in steps {
+        input.extend(write_step(*step));
+    }
+    input
+}
+
+/// A table with a state under it.
+pub struct Run {
+    pub table: Table,
+    pub state: State,
+}
+
+impl Run {
+    pub fn new(table: &[u8]) -> Run {
+        let table = read_table(table).unwrap();
+        let state = State::fresh(&table);
+        Run { table, state }
+    }
+
+    /// The answer to any bytes. A refused call must alter nothing.
+    pub fn call_bytes(&mut self, bytes: &[u8]) -> u8 {
+        let before = self.state.clone();
+        let answer = step(&self.table, &mut self.state, bytes);
+        assert!(answer == 0 || self.state == before, "{bytes:?} refused and yet took effect");
+        answer
+    }
+
+    pub fn call(&mut self, step: Step) -> u8 {
+        self.call_bytes(&write_step(step))
+    }
+
+    /// Steps that must all be answered 0.
+    pub fn done(&mut self, steps: &[Step]) {
+        for step in steps {
+            assert_eq!(self.call(*step), 0, "{step:?}");
+        }
+    }
+}
+
+/// Four peers, t = 3, peer 4 dishonest, two periods; items 0 and 1 clash.
+pub fn four_peers() -> Run {
+    let items = [vote(7, &[0]), vote(7, &[1]), audit(8), cancellation(7)];
+    Run::new(&table_bytes(4, 3, &[1, 2, 3], 2, &items))
+}
+
+/// Item 0 signed by peers 1, 2, 3 and known to all of them.
+pub fn signed_by_three() -> Run {
+    let mut run = four_peers();
+    run.done(&[Step::Post { item: 0 }]);
+    for peer in 1..=3 {
+        run.done(&[Step::Hand { peer, item: 0 }, Step::Sign { peer, item: 0 }]);
+    }
+    for peer in 1..=3 {
+        for other in 1..=3 {
+            run.done(&[Step::Take { peer, other, period: 0, item: 0 }]);
+        }
+    }
+    run
+}
+
+/// As above, closed and hashed by peers 1, 2, 3: entries 0, 1, 2.
+pub fn hashed_by_three() -> Run {
+    let mut run = signed_by_three();
+    for peer in 1..=3 {
+        run.done(&[Step::Close { peer }, Step::Hash { peer, period: 0 }]);
+    }
+    run
+}
+
+/// A xorshift generator with a fixed seed.
+pub struct Random(u64);
+
+impl Random {
+    pub fn new(seed: u64) -> Random {
+        Random(seed.wrapping_mul(0x9E37_79B9_7F4A_7C15) | 1)
+    }
+
+    pub fn next(&mut self) -> u64 {
+        self.0 ^= self.0 << 13;
+        self.0 ^= self.0 >> 7;
+        self.0 ^= self.0 << 17;
+        self.0
+    }
+
+    /// A number below the bound, which is not 0.
+    pub fn below(&mut self, bound: usize) -> usize {
+        ((self.next() >> 11) % bound as u64) as usize
+    }
+
+    pub fn between(&mut self, low: usize, high: usize) -> usize {
+        low + self.below(high - low + 1)
+    }
+
+    /// True so many times in a hundred.
+    pub fn chance(&mut self, percent: usize) -> bool {
+        self.below(100) < percent
+    }
+
+    pub fn shuffle<T>(&mut self, list: &mut [T]) {
+        for k in (1..list.len()).rev() {
+            list.swap(k, self.below(k + 1));
+        }
+    }
+}

@@ -1,0 +1,184 @@
+//! Demand 3 on random runs: the posts, receipts and boards held outside are
+//! those of the ideal board, every move of which was allowed.
+
+mod common;
+
+use common::random_runs::RandomRun;
+use common::Random;
+use reference::ideal::reaches_honest_share;
+use reference::state::State;
+use reference::step::step;
+use std::collections::{BTreeMap, BTreeSet};
+
+const RUNS: u64 = 10_000;
+
+/// A run under the premise: t honest peers of n, and 3t > 2n.
+fn run_under_premise(seed: u64) -> RandomRun {
+    let mut random = Random::new(seed);
+    let most = if random.chance(10) { 16 } else { 6 };
+    let n = random.between(1, most);
+    let t = random.between(2 * n / 3 + 1, n);
+    let honest_count = random.between(t, n);
+    let bursts = random.between(5, 30);
+    let mut run = RandomRun::new(random, n, t, honest_count);
+    run.go(bursts);
+    run
+}
+
+/// The single claim: equal posts, receipts and boards, every move allowed.
+fn equals_ideal_board(run: &RandomRun) -> bool {
+    run.ideal.all_allowed
+        && run.ideal.posts == run.state.posted
+        && run.ideal.receipts == run.state.receipts
+        && run.ideal.boards == run.state.boards()
+}
+
+#[test]
+fn the_ideal_board_on_random_runs() {
+    let mut tally = Tally::default();
+    for seed in 1..=RUNS {
+        let run = run_under_premise(seed);
+        assert!(equals_ideal_board(&run), "seed {seed}");
+        no_clash_outside(&run);
+        one_board_a_period(&run);
+        receipted_items_are_on_the_board(&run);
+        board_items_are_posted_and_signed(&run);
+        boards_stand_unchanged(&run);
+        tally.add(&run);
+    }
+    println!("{tally:?}");
+    tally.shows_enough();
+}
+
+/// No two clashing items among all receipts and published boards.
+fn no_clash_outside(run: &RandomRun) {
+    let mut items: BTreeSet<usize> = run.state.receipts.iter().map(|(_, item)| *item).collect();
+    for (_, board) in run.state.boards() {
+        items.extend(board);
+    }
+    for x in &items {
+        assert!(!items.iter().any(|y| run.table.clash(*x, *y)));
+    }
+}
+
+fn one_board_a_period(run: &RandomRun) {
+    let boards = run.state.boards();
+    let periods: BTreeSet<usize> = boards.iter().map(|(period, _)| *period).collect();
+    assert_eq!(periods.len(), boards.len());
+}
+
+fn receipted_items_are_on_the_board(run: &RandomRun) {
+    for (period, board) in run.state.boards() {
+        for (_, item) in run.state.receipts.iter().filter(|(q, _)| *q == period) {
+            assert!(board.contains(item));
+        }
+    }
+}
+
+/// By at least t + h − n of the h honest peers, in that period.
+fn board_items_are_posted_and_signed(run: &RandomRun) {
+    for (period, board) in run.state.boards() {
+        for item in board {
+            assert!(run.ideal.posts.contains(&item));
+            assert!(reaches_honest_share(&run.table, run.ideal.honest_signers(period, item)));
+        }
+    }
+}
+
+/// The same calls once more: the same answers, and after each of them the
+/// boards are the first ones of those at the end.
+fn boards_stand_unchanged(run: &RandomRun) {
+    let last = run.state.boards();
+    let mut state = State::fresh(&run.table);
+    for (bytes, answer) in &run.calls {
+        assert_eq!(step(&run.table, &mut state, bytes), *answer);
+        if bytes.first() == Some(&12) {
+            assert!(last.starts_with(&state.boards()));
+        }
+    }
+    assert_eq!(state, run.state);
+}
+
+/// What the runs held, so that the claims above are not empty.
+#[derive(Debug, Default)]
+struct Tally {
+    steps: usize,
+    answers: BTreeMap<u8, usize>,
+    receipts: usize,
+    boards: usize,
+    items_on_boards: usize,
+    runs_with_receipt_after_board: usize,
+    runs_with_clash_refused_in_a_later_period: usize,
+}
+
+impl Tally {
+    fn add(&mut self, run: &RandomRun) {
+        self.steps += run.calls.len();
+        for (_, answer) in &run.calls {
+            *self.answers.entry(*answer).or_default() += 1;
+        }
+        let boards = run.state.boards();
+        self.receipts += run.state.receipts.len();
+        self.boards += boards.len();
+        self.items_on_boards += boards.iter().map(|(_, board)| board.len()).sum::<usize>();
+        self.runs_with_receipt_after_board += receipt_after_board(run) as usize;
+        self.runs_with_clash_refused_in_a_later_period += late_clash(run) as usize;
+    }
+
+    fn shows_enough(&self) {
+        for answer in [0, 5, 6, 7, 8, 9, 10, 11, 12, 13] {
+            assert!(self.answers[&answer] > 1000, "answer {answer}");
+        }
+        assert!(self.receipts > 5000);
+        assert!(self.boards > 3000);
+        assert!(self.items_on_boards > 2000);
+        assert!(self.runs_with_receipt_after_board > 100);
+        assert!(self.runs_with_clash_refused_in_a_later_period > 500);
+    }
+}
+
+/// Whether a receipt was first made after its period's board.
+fn receipt_after_board(run: &RandomRun) -> bool {
+    let mut state = State::fresh(&run.table);
+    for (bytes, _) in &run.calls {
+        let before = state.receipts.clone();
+        step(&run.table, &mut state, bytes);
+        let boards = state.boards();
+        let late = |period| boards.iter().any(|(q, _)| *q == period);
+        if state.receipts.difference(&before).any(|(period, _)| late(*period)) {
+            return true;
+        }
+    }
+    false
+}
+
+/// Whether a hand was refused for a clash with an item of an earlier period.
+fn late_clash(run: &RandomRun) -> bool {
+    let mut state = State::fresh(&run.table);
+    for (bytes, answer) in &run.calls {
+        if *answer == 11 {
+            let peer = state.peer(bytes[1] as usize);
+            let in_open = |held: &(usize, usize)| {
+                held.0 == peer.p && run.table.clash(held.1, bytes[4] as usize)
+            };
+            if !peer.held.iter().any(in_open) {
+                return true;
+            }
+        }
+        step(&run.table, &mut state, bytes);
+    }
+    false
+}
+
+/// The check has teeth: with fewer than t honest peers it fails now and then.
+#[test]
+fn too_few_honest_peers_break_it() {
+    let mut broken = 0;
+    for seed in 1..=500 {
+        let mut run = RandomRun::new(Random::new(seed), 4, 3, 2);
+        run.go(25);
+        broken += !equals_ideal_board(&run) as usize;
+    }
+    println!("broken {broken} of 500");
+    assert!(broken > 50);
+}
