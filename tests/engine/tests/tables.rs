@@ -80,6 +80,6 @@ fn same_refusals() {
         let length = if random.once_in(4) { wrong } else { LENGTH };
         seen[compare(&mut random, &text, length) as usize] += 1;
     }
-    println!("40000 tables, twice called; answers to fresh {seen:?}");
+    println!("{} tables; answers to fresh {seen:?}", seen.iter().sum::<usize>());
     assert!([0, 1, 2, 3, 4, 14].into_iter().all(|answer| seen[answer] > 100));
 }
