@@ -1,8 +1,8 @@
 /* The peered ballot board: the proved engine, for C.
  *
- * A slice is a pointer and a length. Table, state and step are any bytes; the
- * state does not overlap the other two. Answers are the numbers on the report:
- * 0 is taken, and of what is refused no byte of the state changes. */
+ * A slice is a pointer, never null, and a length. Table, state and step are any
+ * bytes; the state does not overlap the other two. Answers are the numbers on
+ * the report: 0 is taken, and of what is refused no byte of the state changes. */
 #ifndef BOARD_H
 #define BOARD_H
 
