@@ -1,4 +1,4 @@
--- Each arm is the step that the match found, by `of-step`.
+-- Each arm is the step that the match found, by `of-step`. A paragraph for each arm before its call, then one for each after it.
 use borrow.Author.Needs.{needs}
 use Rattle.advance.proofs.Whole.{of-step}
 use Rattle.advance.proofs.advance.Statement.{statement}

@@ -22,11 +22,10 @@ same-length c = search needs
 
 returns-2 : tie.Need-returns-2
 returns-2 c =
-    let table = c .before .before .before .before .before .check-table .ensures in
-    let good = c .before .before .before .before .if1 .left in
-    let head = c .before .before .before .head-of .ensures in
-    let tested = c .before .state-ok .ensures in
-    step-state-refused _ table good _ _ head tested _ (not-true _ (c .if2 .taken))
+    let state = c .before in
+    let head = state .before .before in
+    let table = head .before .before in
+    step-state-refused _ (table .check-table .ensures) (head .before .if1 .left) _ _ (head .head-of .ensures) (state .state-ok .ensures) _ (not-true _ (c .if2 .taken))
 
 read-step-requires : tie.Need-read-step-requires
 read-step-requires c κs = search needs
@@ -36,11 +35,14 @@ enum-known-st c = search needs
 
 advance-requires : tie.Need-advance-requires
 advance-requires c κs =
-    let table = c .before .before .before .before .before .before .before .before .before .before .check-table .ensures in
-    let good = c .before .before .before .before .before .before .before .before .before .if1 .left in
-    let head = c .before .before .before .before .before .before .before .before .head-of .ensures in
-    let tested = c .before .before .before .before .before .before .state-ok .ensures in
-    (ready-read _ table good _ _ head tested (λ k. c .before .before .before .before .before .before .before .before .before .before .before .before .slice-known .given k .fits) (not-false _ (c .before .before .before .before .before .if2 .left)), items-read _ table good _ head)
+    let reading = c .before .before .before .before in
+    let state = reading .before .before in
+    let head = state .before .before in
+    let table = head .before .before in
+    let bytes = table .before .before in (
+      ready-read _ (table .check-table .ensures) (head .before .if1 .left) _ _ (head .head-of .ensures) (state .state-ok .ensures) (λ k. bytes .slice-known .given k .fits) (not-false _ (reading .before .if2 .left)),
+      items-read _ (table .check-table .ensures) (head .before .if1 .left) _ (head .head-of .ensures),
+    )
 
 enum-told : tie.Need-enum-told
 enum-told c = search needs
@@ -50,22 +52,19 @@ same-length-2 c = search needs
 
 returns-3 : tie.Need-returns-3
 returns-3 c =
-    let table = c .before .before .before .before .before .before .before .before .before .before .before .before .before .check-table .ensures in
-    let good = c .before .before .before .before .before .before .before .before .before .before .before .before .if1 .left in
-    let head = c .before .before .before .before .before .before .before .before .before .before .before .head-of .ensures in
-    let tested = c .before .before .before .before .before .before .before .before .before .state-ok .ensures in
-    step-judged _ table good _ _ head tested _ (not-false _ (c .before .before .before .before .before .before .before .before .if2 .left)) _ (c .before .before .before .before .before .before .before .read-step .ensures) _ (search needs) _ _ (c .before .before .advance .ensures)
+    let reading = c .before .before .before .before .before .before .before in
+    step-judged _ (reading .before .before .before .before .before .before .check-table .ensures) (reading .before .before .before .before .before .if1 .left) _ _ (reading .before .before .before .before .head-of .ensures) (reading .before .before .state-ok .ensures) _ (not-false _ (reading .before .if2 .left)) _ (reading .read-step .ensures) _ (search needs) _ _ (c .before .before .advance .ensures)
 
 same-length-3 : tie.Need-same-length-3
 same-length-3 c = search needs
 
 returns-4 : tie.Need-returns-4
 returns-4 c =
-    let table = c .before .before .before .before .before .before .before .before .check-table .ensures in
-    let good = c .before .before .before .before .before .before .before .if1 .left in
-    let head = c .before .before .before .before .before .before .head-of .ensures in
-    let tested = c .before .before .before .before .state-ok .ensures in
-    step-form-refused _ table good _ _ head tested _ (not-false _ (c .before .before .before .if2 .left)) _ (c .before .before .read-step .ensures) (search needs)
+    let reading = c .before .before in
+    let state = reading .before .before in
+    let head = state .before .before in
+    let table = head .before .before in
+    step-form-refused _ (table .check-table .ensures) (head .before .if1 .left) _ _ (head .head-of .ensures) (state .state-ok .ensures) _ (not-false _ (reading .before .if2 .left)) _ (reading .read-step .ensures) (search needs)
 
 pub step-spec : {M : Type 1} → statement M
 step-spec =

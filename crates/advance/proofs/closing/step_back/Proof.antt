@@ -28,30 +28,34 @@ returns c = search refused
 
 enter-requires : tie.Need-enter-requires
 enter-requires c κs =
-    let ready = c .before .before .before .before .before .before .before .before .before .before .pre in
-    let period = c .before .before .before .before .before .before .next-of .ensures in
-    let own = c .before .before .before .before .board-by .ensures in
-    let judged = c .before .before .judge-back .ensures in
-    (search asked, room-for-backing _ _ _ ready _ _ _ judged (search needs) period (of-next _ _ _ ready _ _ _ period own))
+    let judging = c .before .before in
+    let making = judging .before .before in
+    let reading = making .before .before in
+    let ready = reading .before .before .before .before .pre in
+    let period = reading .next-of .ensures in
+    (search asked, room-for-backing _ _ _ ready _ _ _ (judging .judge-back .ensures) (search needs) period (of-next _ _ _ ready _ _ _ period (making .board-by .ensures)))
 
 raise-next-requires : tie.Need-raise-next-requires
 raise-next-requires c κs =
-    let ready = c .before .before .before .before .before .before .before .before .before .before .before .before .before .before .pre in
-    let judged = c .before .before .before .before .before .before .judge-back .ensures in
-    let entered = c .before .before .before .enter .ensures in
-    (still-canon _ _ entered, may-back _ _ _ ready _ judged (search needs), back-fits _ _ _ ready _ _ _ entered)
+    let entering = c .before .before .before in
+    let judging = entering .before .before .before in
+    let reading = judging .before .before .before .before in
+    let ready = reading .before .before .before .before .pre in
+    let entered = entering .enter .ensures in
+    (still-canon _ _ entered, may-back _ _ _ ready _ (judging .judge-back .ensures) (search needs), back-fits _ _ _ ready _ _ _ entered)
 
 same-length-2 : tie.Need-same-length-2
 same-length-2 c = search needs
 
 returns-2 : tie.Need-returns-2
 returns-2 c =
-    let period = c .before .before .before .before .before .before .before .before .before .before .before .before .before .next-of .ensures in
-    let own = c .before .before .before .before .before .before .before .before .before .before .before .board-by .ensures in
-    let judged = c .before .before .before .before .before .before .before .before .before .judge-back .ensures in
-    let entered = c .before .before .before .before .before .before .enter .ensures in
-    let raised = c .before .before .raise-next .ensures in
-    taken _ _ _ _ _ judged (search needs) (did-back _ _ _ _ _ _ _ period own entered raised)
+    let raising = c .before .before in
+    let entering = raising .before .before .before .before in
+    let judging = entering .before .before .before in
+    let making = judging .before .before in
+    let reading = making .before .before in
+    let did = did-back _ _ _ _ _ _ _ (reading .next-of .ensures) (making .board-by .ensures) (entering .enter .ensures) (raising .raise-next .ensures) in
+    taken _ _ _ _ _ (judging .judge-back .ensures) (search needs) did
 
 pub step-back-spec : {M : Type 1} → statement M
 step-back-spec =
