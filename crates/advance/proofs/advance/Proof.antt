@@ -225,78 +225,9 @@ returns-18 c = search of-step
 
 pub advance-spec : {M : Type 1} → statement M
 advance-spec =
-    tie.close
-    (tie.spec
-    enum-known-st
-    step-post-requires
-    enum-known-st-2
-    clash-mask-requires
-    step-hand-requires
-    enum-known-st-3
-    step-sign-requires
-    enum-known-st-4
-    step-take-requires
-    enum-known-st-5
-    step-share-requires
-    enum-known-st-6
-    step-receipt-requires
-    enum-known-st-7
-    step-close-requires
-    enum-known-st-8
-    step-fetch-requires
-    enum-known-st-9
-    step-send-hash-requires
-    enum-known-st-10
-    step-hear-requires
-    enum-known-st-11
-    step-back-requires
-    enum-known-st-12
-    step-publish-requires
-    enum-known-st-13
-    step-false-signature-requires
-    enum-known-st-14
-    step-false-share-requires
-    enum-known-st-15
-    step-false-hash-requires
-    enum-known-st-16
-    step-false-backing-requires
-    enum-known-st-17
-    step-down-requires
-    enum-known-st-18
-    step-up-requires
-    same-length
-    returns
-    same-length-2
-    returns-2
-    same-length-3
-    returns-3
-    same-length-4
-    returns-4
-    same-length-5
-    returns-5
-    same-length-6
-    returns-6
-    same-length-7
-    returns-7
-    same-length-8
-    returns-8
-    same-length-9
-    returns-9
-    same-length-10
-    returns-10
-    same-length-11
-    returns-11
-    same-length-12
-    returns-12
-    same-length-13
-    returns-13
-    same-length-14
-    returns-14
-    same-length-15
-    returns-15
-    same-length-16
-    returns-16
-    same-length-17
-    returns-17
-    same-length-18
-    returns-18)
+    let ballots = tie.spec enum-known-st step-post-requires enum-known-st-2 clash-mask-requires step-hand-requires enum-known-st-3 step-sign-requires enum-known-st-4 step-take-requires enum-known-st-5 step-share-requires enum-known-st-6 step-receipt-requires in
+    let closing = ballots enum-known-st-7 step-close-requires enum-known-st-8 step-fetch-requires enum-known-st-9 step-send-hash-requires enum-known-st-10 step-hear-requires enum-known-st-11 step-back-requires enum-known-st-12 step-publish-requires in
+    let called = closing enum-known-st-13 step-false-signature-requires enum-known-st-14 step-false-share-requires enum-known-st-15 step-false-hash-requires enum-known-st-16 step-false-backing-requires enum-known-st-17 step-down-requires enum-known-st-18 step-up-requires in
+    let after-ballots = called same-length returns same-length-2 returns-2 same-length-3 returns-3 same-length-4 returns-4 same-length-5 returns-5 same-length-6 returns-6 in
+    let after-closing = after-ballots same-length-7 returns-7 same-length-8 returns-8 same-length-9 returns-9 same-length-10 returns-10 same-length-11 returns-11 same-length-12 returns-12 in
+    tie.close (after-closing same-length-13 returns-13 same-length-14 returns-14 same-length-15 returns-15 same-length-16 returns-16 same-length-17 returns-17 same-length-18 returns-18)
