@@ -4,9 +4,7 @@ use crate::layout::bits;
 use crate::random::Random;
 use reference::form::{write_step, Step};
 use reference::state::{Entry, State};
-use reference::table::Table;
-
-const LEAST_THRESHOLD: [usize; 16] = [1, 2, 3, 3, 4, 5, 5, 6, 7, 7, 8, 9, 9, 10, 11, 11];
+use reference::table::{write_table, Table, LEAST_THRESHOLD};
 
 /// How often each op is chosen: as often as it is here.
 const OPS: [u8; 38] = [
@@ -25,7 +23,7 @@ pub fn random_table(random: &mut Random, most_peers: usize) -> Vec<u8> {
     let most_items = [3, 6, 12, 64][random.below(4)];
     let m = random.between(0, most_items);
     let items = random_items(random, m);
-    table_bytes(n, t, honest, random.between(1, 8), &items)
+    write_table(n as u8, t as u8, honest, random.between(1, 8) as u8, &items)
 }
 
 /// Different items, of few ballot numbers.
@@ -44,20 +42,6 @@ fn random_items(random: &mut Random, m: usize) -> Vec<Vec<u8>> {
         }
     }
     items
-}
-
-/// The bytes of a table, its fields in document 01's order.
-fn table_bytes(n: usize, t: usize, honest: u16, periods: usize, items: &[Vec<u8>]) -> Vec<u8> {
-    let [high, low] = honest.to_be_bytes();
-    let mut bytes = vec![n as u8, t as u8, high, low, periods as u8, items.len() as u8];
-    let mut offset = 6 + 4 * items.len();
-    for item in items {
-        bytes.extend((offset as u16).to_be_bytes());
-        bytes.extend((item.len() as u16).to_be_bytes());
-        offset += item.len();
-    }
-    bytes.extend(items.concat());
-    bytes
 }
 
 /// The next steps of a run: one step, or the same one for all peers.

@@ -4,7 +4,7 @@ use crate::Refusal;
 use std::collections::BTreeSet;
 
 /// The least threshold t for n = 1..16.
-const LEAST_THRESHOLD: [usize; 16] = [1, 2, 3, 3, 4, 5, 5, 6, 7, 7, 8, 9, 9, 10, 11, 11];
+pub const LEAST_THRESHOLD: [usize; 16] = [1, 2, 3, 3, 4, 5, 5, 6, 7, 7, 8, 9, 9, 10, 11, 11];
 
 const HEADER_LENGTH: usize = 6;
 const PAIR_LENGTH: usize = 4;
@@ -208,4 +208,18 @@ fn peers_of(set: u16) -> BTreeSet<usize> {
 /// A number of two bytes, high byte first.
 fn two_bytes(bytes: &[u8], at: usize) -> usize {
     256 * bytes[at] as usize + bytes[at + 1] as usize
+}
+
+/// The bytes of a table, its fields in document 01's order. Nothing is checked.
+pub fn write_table(n: u8, t: u8, honest: u16, periods: u8, items: &[Vec<u8>]) -> Vec<u8> {
+    let [high, low] = honest.to_be_bytes();
+    let mut bytes = vec![n, t, high, low, periods, items.len() as u8];
+    let mut offset = HEADER_LENGTH + PAIR_LENGTH * items.len();
+    for item in items {
+        bytes.extend((offset as u16).to_be_bytes());
+        bytes.extend((item.len() as u16).to_be_bytes());
+        offset += item.len();
+    }
+    bytes.extend(items.concat());
+    bytes
 }

@@ -124,27 +124,34 @@ fn names_of_periods_boards_and_entries() {
     assert_eq!(run.call(Step::Publish { entry: 255 }), 10);
 }
 
+/// A step of each kind that needs an honest peer who is up.
+fn by_honest(peer: usize, other: usize) -> [Step; 10] {
+    [
+        Step::Hand { peer, item: 0 },
+        Step::Sign { peer, item: 0 },
+        Step::Take { peer, other, period: 0, item: 0 },
+        Step::Share { peer, item: 0 },
+        Step::Close { peer },
+        Step::Fetch { peer, other, period: 0 },
+        Step::Fetch { peer: other, other: peer, period: 0 },
+        Step::Hash { peer, period: 0 },
+        Step::Hear { peer, entry: 0 },
+        Step::Back { peer },
+    ]
+}
+
 #[test]
 fn roles() {
     let mut run = hashed_by_three();
-    for step in [
-        Step::Hand { peer: 4, item: 0 },
-        Step::Sign { peer: 4, item: 0 },
-        Step::Take { peer: 4, other: 1, period: 0, item: 0 },
-        Step::Share { peer: 4, item: 0 },
-        Step::Close { peer: 4 },
-        Step::Fetch { peer: 4, other: 1, period: 0 },
-        Step::Fetch { peer: 1, other: 4, period: 0 },
-        Step::Hash { peer: 4, period: 0 },
-        Step::Hear { peer: 4, entry: 0 },
-        Step::Back { peer: 4 },
+    let others = [
         Step::FalseSignature { peer: 1, period: 0, item: 0 },
         Step::FalseShare { peer: 1, period: 0, item: 0 },
         Step::FalseHash { peer: 1, period: 0, board: 0 },
         Step::FalseBacking { peer: 1, period: 0, board: 0 },
         Step::Down { peer: 4 },
         Step::Up { peer: 4 },
-    ] {
+    ];
+    for step in by_honest(4, 1).into_iter().chain(others) {
         assert_eq!(run.call(step), 7, "{step:?}");
     }
 }
@@ -153,18 +160,7 @@ fn roles() {
 fn down() {
     let mut run = hashed_by_three();
     run.done(&[Step::Down { peer: 1 }, Step::Down { peer: 1 }]);
-    for step in [
-        Step::Hand { peer: 1, item: 0 },
-        Step::Sign { peer: 1, item: 0 },
-        Step::Take { peer: 1, other: 2, period: 0, item: 0 },
-        Step::Share { peer: 1, item: 0 },
-        Step::Close { peer: 1 },
-        Step::Fetch { peer: 1, other: 2, period: 0 },
-        Step::Fetch { peer: 2, other: 1, period: 0 },
-        Step::Hash { peer: 1, period: 0 },
-        Step::Hear { peer: 1, entry: 0 },
-        Step::Back { peer: 1 },
-    ] {
+    for step in by_honest(1, 2) {
         assert_eq!(run.call(step), 8, "{step:?}");
     }
     // The signatures of a down peer are outside still.

@@ -7,7 +7,7 @@ pub mod random_runs;
 use reference::form::{write_step, Step};
 use reference::state::State;
 use reference::step::step;
-use reference::table::{read_table, Table};
+use reference::table::{read_table, write_table, Table};
 
 pub fn vote(ballot: u32, preferences: &[u8]) -> Vec<u8> {
     [&ballot.to_be_bytes()[..], &[1], preferences].concat()
@@ -21,23 +21,10 @@ pub fn cancellation(ballot: u32) -> Vec<u8> {
     [&ballot.to_be_bytes()[..], &[3]].concat()
 }
 
-/// A set of peers in two bytes, high byte first.
-pub fn peer_set(peers: &[usize]) -> [u8; 2] {
-    peers.iter().fold(0u16, |set, k| set | 1 << (k - 1)).to_be_bytes()
-}
-
-/// The bytes of a table, its fields in document 01's order.
+/// The bytes of a table, its honest peers listed.
 pub fn table_bytes(n: u8, t: u8, honest: &[usize], periods: u8, items: &[Vec<u8>]) -> Vec<u8> {
-    let set = peer_set(honest);
-    let mut bytes = vec![n, t, set[0], set[1], periods, items.len() as u8];
-    let mut offset = 6 + 4 * items.len();
-    for item in items {
-        bytes.extend((offset as u16).to_be_bytes());
-        bytes.extend((item.len() as u16).to_be_bytes());
-        offset += item.len();
-    }
-    bytes.extend(items.concat());
-    bytes
+    let set = honest.iter().fold(0, |set, k| set | 1 << (k - 1));
+    write_table(n, t, set, periods, items)
 }
 
 /// The bytes of a rehearsal: a table, then steps.

@@ -4,7 +4,7 @@
 use super::{audit, cancellation, table_bytes, vote, Random};
 use reference::form::{read_step, write_step, Step};
 use reference::ideal::IdealBoard;
-use reference::state::State;
+use reference::state::{Peer, State};
 use reference::step::step;
 use reference::table::{read_table, Table};
 
@@ -130,21 +130,21 @@ impl RandomRun {
 
     /// Mostly the open period of some honest peer.
     pub fn open_period(&mut self) -> usize {
-        let honest = self.honest();
-        let p = self.state.peer(honest[self.random.below(honest.len())]).p;
-        if p < self.table.periods && self.random.chance(90) {
-            p
-        } else {
-            self.period()
-        }
+        self.likely_period(|peer| peer.p, 90)
     }
 
     /// Mostly the period that some honest peer is to back next.
     pub fn next_to_back(&mut self) -> usize {
+        self.likely_period(|peer| peer.c, 80)
+    }
+
+    /// A counter of some honest peer, where it is a period, that often in a
+    /// hundred; else any period.
+    fn likely_period(&mut self, counter: fn(&Peer) -> usize, often: usize) -> usize {
         let honest = self.honest();
-        let c = self.state.peer(honest[self.random.below(honest.len())]).c;
-        if c < self.table.periods && self.random.chance(80) {
-            c
+        let period = counter(self.state.peer(honest[self.random.below(honest.len())]));
+        if period < self.table.periods && self.random.chance(often) {
+            period
         } else {
             self.period()
         }
