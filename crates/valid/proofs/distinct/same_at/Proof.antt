@@ -76,8 +76,11 @@ shared-slice-read-result-2 c = search needs
 returns-4 : tie.Need-returns-4
 unfolding sameAt
 returns-4 c =
-    boards-agree _ _ _ _ _ _ (c .before .before .before .before .before .before .before .before .before .before .load .ensures) (c .before .before .before .before .before .before .before .before .before .load2 .ensures) (c .before .before .before .before .before .before .before .before .if1 .left)
-    (agree _ _ _ _ (c .before .before .before .before .before .if2 .left) (agree _ _ _ _ (c .before .before .if3 .left) refl))
+    let third = c .before .before in
+    let second = third .before .before .before in
+    let first = second .before .before .before in
+    boards-agree _ _ _ _ _ _ (first .before .before .load .ensures) (first .before .load2 .ensures) (first .if1 .left)
+    (agree _ _ _ _ (second .if2 .left) (agree _ _ _ _ (third .if3 .left) refl))
 
 pub same-at-spec : {M : Type 1} → statement M
 same-at-spec =
