@@ -1,8 +1,10 @@
 -- Clash, which is document 01's word for two different items of one ballot, neither a cancellation, at least one a vote.
-use Prim.Native.Nat.{ℕ, min}
+use Prim.Native.Nat.{ℕ, _<_, min}
 use mathlib.Core.Bool.{Bool, true, false, not, _&&_, _||_}
 use mathlib.Core.List.{List}
+use mathlib.Core.Path.{_≡_}
 use lib.Dec.{eqb}
+use lib.ListN.{length, getD}
 use Rattle.base.specs.Bytes.{sameBytes}
 use Rattle.base.specs.Bits.{pack}
 use Rattle.ballot.specs.declared.item.Kind.{Kind}
@@ -55,3 +57,7 @@ maskWidth s = min (itemsOf s) 64
 -- the items that clash with item i, as a number: bit j is item j
 unfoldable pub clashMask : List ℕ → ℕ → ℕ
 clashMask s i = pack (maskWidth s) (clashIn s i)
+
+-- the first rows of clashes of a table: row k is the mask of item k
+pub record RowsOf (table rows : List ℕ) : Type 0 where
+  pub row : (k : ℕ) → k < length rows → getD rows k 0 ≡ clashMask table k

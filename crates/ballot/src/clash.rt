@@ -2,7 +2,7 @@
 ghost use mathlib.Core.Path.{_≡_};
 ghost use Prim.Native.Nat.{_<_, _^_};
 ghost use Rattle.ballot.specs.Clash.{isVote, isCancellation, kindsClash, itemsClash, readingsClash};
-ghost use Rattle.ballot.specs.Clash.{clash, clashIn, maskWidth, clashMask};
+ghost use Rattle.ballot.specs.Clash.{clash, clashIn, maskWidth, clashMask, RowsOf};
 use super::item::Item;
 use super::item::Kind;
 use super::item::Reading;
@@ -121,4 +121,29 @@ pub fn clash_mask(table: &[u8], i: u8) -> u64
         }
     }
     mask
+}
+
+// The row of every item number below 64: what clashes with it.
+pub fn clash_rows(table: &[u8]) -> [u64; 64]
+    ensures { λ r. ⌜ RowsOf (now (table .entry)) r ⌝ }
+{
+    let mut rows = [0; 64];
+    let mut i: u8 = 0;
+    while i < 64 {
+        rows[i as usize] = clash_mask(table, i);
+        i += 1;
+    }
+    rows
+}
+
+// What clashes with item i: its row, where it was made, or the mask made anew.
+pub fn clash_row(table: &[u8], rows: &[u64], i: u8) -> u64
+    requires { ⌜ RowsOf (now table) (now rows) ⌝ }
+    ensures { λ r. ⌜ r ≡ clashMask (now (table .entry)) i ⌝ }
+{
+    let at = i as usize;
+    if at < rows.len() {
+        return rows[at];
+    }
+    clash_mask(table, i)
 }

@@ -1,0 +1,56 @@
+-- The first i rows are made, by `made-more`.
+use Prim.Native.Nat.{_-_}
+use native.Mathlib.Omega.{arith}
+use borrow.Author.Needs.{needs}
+use Rattle.ballot.proofs.Rows.{Made, made-none, made-more, made-all}
+use Rattle.ballot.proofs.clash.clash_rows.Statement.{statement}
+use Rattle.ballot.proofs.clash.clash_rows.Tie as tie
+
+abbrev Inv-loop : tie.InvT-loop
+Inv-loop table rows₀ i₀ rows i = Made table rows i
+
+abbrev μ-loop : tie.MeasureT-loop
+μ-loop table rows₀ i₀ rows i = 64 - i
+
+loop-holds : tie.Need-loop-holds Inv-loop μ-loop
+loop-holds c = made-none _
+
+clash-mask-requires : tie.Need-clash-mask-requires Inv-loop μ-loop
+clash-mask-requires c κs = search needs
+
+cast-rows : tie.Need-cast-rows Inv-loop μ-loop
+cast-rows c = search needs
+
+mul-rows : tie.Need-mul-rows Inv-loop μ-loop
+mul-rows c = search needs
+
+array-write-rows : tie.Need-array-write-rows Inv-loop μ-loop
+array-write-rows c = search needs
+
+add-i : tie.Need-add-i Inv-loop μ-loop
+add-i c = search needs
+
+loop-less : tie.Need-loop-less Inv-loop μ-loop
+loop-less c = search needs
+
+loop-again : tie.Need-loop-again Inv-loop μ-loop
+loop-again c = search made-more
+
+returns : tie.Need-returns Inv-loop μ-loop
+returns c = search made-all
+
+pub clash-rows-spec : {M : Type 1} → statement M
+clash-rows-spec =
+    tie.close
+    (tie.spec
+    Inv-loop
+    μ-loop
+    loop-holds
+    clash-mask-requires
+    cast-rows
+    mul-rows
+    array-write-rows
+    add-i
+    loop-less
+    loop-again
+    returns)
