@@ -1,10 +1,11 @@
 // The inner step: on a state that is ready, a step's answer and effect, in place. Nothing is copied and nothing re-validated.
+// Rows of clashes may be handed in, made once for many steps; where there is no row of an item, its row is made anew.
 ghost use mathlib.Core.Path.{_≡_};
 ghost use Rattle.ballot.specs.Header.{itemsOf};
-ghost use Rattle.ballot.specs.Clash.{clashIn};
+ghost use Rattle.ballot.specs.Clash.{clashIn, RowsOf};
 ghost use Rattle.valid.specs.Ready.{Ready};
 ghost use Rattle.advance.specs.Stepped.{Stepped};
-use ballot::clash::clash_mask;
+use ballot::clash::clash_row;
 use rules::Step;
 use view::Head;
 
@@ -13,13 +14,13 @@ mod change;
 mod closing;
 mod outside;
 
-pub fn advance(table: &[u8], s: &mut [u8], h: Head, st: Step) -> u8
-    requires { ⌜ Ready h (clashIn (now table)) (now s) × (h .items ≡ itemsOf (now table)) ⌝ }
+pub fn advance(table: &[u8], s: &mut [u8], h: Head, rows: &[u64], st: Step) -> u8
+    requires { ⌜ Ready h (clashIn (now table)) (now s) × (h .items ≡ itemsOf (now table)) × RowsOf (now table) (now rows) ⌝ }
     ensures { λ r. ⌜ Stepped h (clashIn (now (table .entry))) (now (s .entry)) (now (s .exit)) st r ⌝ }
 {
     match st {
         Step::Post(x) => ballots::step_post(table, s, h, x),
-        Step::Hand(j, x) => ballots::step_hand(table, s, h, clash_mask(table, x), j, x),
+        Step::Hand(j, x) => ballots::step_hand(table, s, h, clash_row(table, rows, x), j, x),
         Step::Sign(j, x) => ballots::step_sign(table, s, h, j, x),
         Step::Take(j, k, p, x) => ballots::step_take(table, s, h, j, k, p, x),
         Step::Share(j, x) => ballots::step_share(table, s, h, j, x),

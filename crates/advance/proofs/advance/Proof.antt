@@ -13,8 +13,8 @@ step-post-requires c κs = search needs
 enum-known-st-2 : tie.Need-enum-known-st-2
 enum-known-st-2 c = search needs
 
-clash-mask-requires : tie.Need-clash-mask-requires
-clash-mask-requires c κs = search needs
+clash-row-requires : tie.Need-clash-row-requires
+clash-row-requires c κs = search needs
 
 step-hand-requires : tie.Need-step-hand-requires
 step-hand-requires c κs = search needs
@@ -225,7 +225,7 @@ returns-18 c = search of-step
 
 pub advance-spec : {M : Type 1} → statement M
 advance-spec =
-    let ballots = tie.spec enum-known-st step-post-requires enum-known-st-2 clash-mask-requires step-hand-requires enum-known-st-3 step-sign-requires enum-known-st-4 step-take-requires enum-known-st-5 step-share-requires enum-known-st-6 step-receipt-requires in
+    let ballots = tie.spec enum-known-st step-post-requires enum-known-st-2 clash-row-requires step-hand-requires enum-known-st-3 step-sign-requires enum-known-st-4 step-take-requires enum-known-st-5 step-share-requires enum-known-st-6 step-receipt-requires in
     let closing = ballots enum-known-st-7 step-close-requires enum-known-st-8 step-fetch-requires enum-known-st-9 step-send-hash-requires enum-known-st-10 step-hear-requires enum-known-st-11 step-back-requires enum-known-st-12 step-publish-requires in
     let called = closing enum-known-st-13 step-false-signature-requires enum-known-st-14 step-false-share-requires enum-known-st-15 step-false-hash-requires enum-known-st-16 step-false-backing-requires enum-known-st-17 step-down-requires enum-known-st-18 step-up-requires in
     let after-ballots = called same-length returns same-length-2 returns-2 same-length-3 returns-3 same-length-4 returns-4 same-length-5 returns-5 same-length-6 returns-6 in

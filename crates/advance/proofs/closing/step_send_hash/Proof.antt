@@ -21,9 +21,10 @@ returns c = search refused
 
 enter-requires : tie.Need-enter-requires
 enter-requires c κs =
-    let own = c .before .before .before .before .board-by .ensures in
-    let judged = c .before .before .judge-send-hash .ensures in
-    (search asked, room-for-hash _ _ _ (c .before .before .before .before .before .before .before .before .pre) _ _ _ judged (search needs) own)
+    let judging = c .before .before in
+    let making = judging .before .before in
+    let ready = making .before .before .before .before .pre in
+    (search asked, room-for-hash _ _ _ ready _ _ _ (judging .judge-send-hash .ensures) (search needs) (making .board-by .ensures))
 
 same-length-2 : tie.Need-same-length-2
 same-length-2 c = search needs
