@@ -60,7 +60,7 @@ pub fn step(table: &[u8], s: &mut [u8], step: &[u8]) -> u8
         return 14;
     }
     match rules::read_step(step) {
-        Call::Formed(st) => advance::advance(table, s, h, st),
+        Call::Formed(st) => advance::advance(table, s, h, &[], st),
         Call::Malformed => 5,
     }
 }

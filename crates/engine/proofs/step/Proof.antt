@@ -33,15 +33,20 @@ read-step-requires c κs = search needs
 enum-known-st : tie.Need-enum-known-st
 enum-known-st c = search needs
 
+slice-aggregate-advance : tie.Need-slice-aggregate-advance
+slice-aggregate-advance c = search needs
+
 advance-requires : tie.Need-advance-requires
 advance-requires c κs =
-    let reading = c .before .before .before .before in
+    let matched = c .before .before .before in
+    let reading = matched .before .before in
     let state = reading .before .before in
     let head = state .before .before in
     let table = head .before .before in
     let bytes = table .before .before in (
       ready-read _ (table .check-table .ensures) (head .before .if1 .left) _ _ (head .head-of .ensures) (state .state-ok .ensures) (λ k. bytes .slice-known .given k .fits) (not-false _ (reading .before .if2 .left)),
       items-read _ (table .check-table .ensures) (head .before .if1 .left) _ (head .head-of .ensures),
+      search needs,
     )
 
 enum-told : tie.Need-enum-told
@@ -52,8 +57,13 @@ same-length-2 c = search needs
 
 returns-3 : tie.Need-returns-3
 returns-3 c =
-    let reading = c .before .before .before .before .before .before .before in
-    step-judged _ (reading .before .before .before .before .before .before .check-table .ensures) (reading .before .before .before .before .before .if1 .left) _ _ (reading .before .before .before .before .head-of .ensures) (reading .before .before .state-ok .ensures) _ (not-false _ (reading .before .if2 .left)) _ (reading .read-step .ensures) _ (search needs) _ _ (c .before .before .advance .ensures)
+    let called = c .before .before in
+    let matched = called .before .before .before .before in
+    let reading = matched .before .before in
+    let state = reading .before .before in
+    let head = state .before .before in
+    let table = head .before .before in
+    step-judged _ (table .check-table .ensures) (head .before .if1 .left) _ _ (head .head-of .ensures) (state .state-ok .ensures) _ (not-false _ (reading .before .if2 .left)) _ (reading .read-step .ensures) _ (matched .st .given .1) _ _ (called .advance .ensures)
 
 same-length-3 : tie.Need-same-length-3
 same-length-3 c = search needs
@@ -78,6 +88,7 @@ step-spec =
     returns-2
     read-step-requires
     enum-known-st
+    slice-aggregate-advance
     advance-requires
     enum-told
     same-length-2
