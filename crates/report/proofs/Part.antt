@@ -1,0 +1,49 @@
+-- A line of the state where there is something to show, and nothing where there is not.
+use Prim.Native.Nat.{ℕ, _≤_, _<_}
+use mathlib.Core.List.{List}
+use mathlib.Core.Path.{_≡_, subst}
+use lib.ListN.{length}
+use borrow.Author.Tests.{lt-ltb, le-ltb}
+use Rattle.rules.specs.declared.Entry.{Entry}
+use Rattle.rules.specs.declared.Entry.the-variants.{Hash, Backing, Board}
+use Rattle.rules.specs.Bag.{entryAt}
+use Rattle.state.specs.Contents.{Contents}
+use Rattle.view.specs.declared.Head.{Head}
+use Rattle.state.specs.Sets.{signerCount}
+use Rattle.text.specs.Wrote.{Wrote, each}
+use Rattle.text.proofs.Writing.{none}
+use Rattle.report.specs.Lines.{dbLine, boardLine}
+use Rattle.report.specs.State.{dbItem, entryLine, bagLine, boardLines}
+
+module _ (c : Contents) (j p x : ℕ) {n : ℕ} (counted : n ≡ signerCount c j p x) {l : List ℕ} {a : ℕ} where
+  pub some-signers : {l₁ : List ℕ} {a₁ : ℕ} → 0 < n → Wrote l a (dbLine j p x n) l₁ a₁ → Wrote l a (dbItem c j p x) l₁ a₁
+  unfolding dbItem
+  some-signers some w = rw (← counted, lt-ltb 0 n some) w
+
+  pub no-signers : n ≤ 0 → Wrote l a (dbItem c j p x) l a
+  unfolding dbItem
+  no-signers few = rw (← counted, le-ltb 0 n few) none
+
+-- an entry of the bag is the one that a match found
+module _ (h : Head) {l : List ℕ} {a : ℕ} (x : Entry) (k p B : ℕ) where
+  pub hash-hidden : x ≡ Hash k p B → Wrote l a (entryLine h x) l a
+  unfolding entryLine
+  hash-hidden e = rw e none
+
+  pub backing-hidden : x ≡ Backing k p B → Wrote l a (entryLine h x) l a
+  unfolding entryLine
+  backing-hidden e = rw e none
+
+pub board-shown : (h : Head) {l l₁ : List ℕ} {a a₁ : ℕ} (x : Entry) (p B : ℕ) → x ≡ Board p B → Wrote l a (boardLine (h .items) p B) l₁ a₁ → Wrote l a (entryLine h x) l₁ a₁
+unfolding entryLine
+board-shown h x p B e w = rw e w
+
+-- entries and their number, as they are read
+module _ (h : Head) (c : Contents) {l l₁ : List ℕ} {a a₁ : ℕ} where
+  pub entry-read : (e : ℕ) (x : Entry) → x ≡ entryAt (c .bag) e → Wrote l a (entryLine h x) l₁ a₁ → Wrote l a (bagLine h c e) l₁ a₁
+  unfolding bagLine
+  entry-read e x r w = subst (λ y. Wrote l a (entryLine h y) l₁ a₁) r w
+
+  pub bag-read : (n : ℕ) → n ≡ length (c .bag) → Wrote l a (each (bagLine h c) n) l₁ a₁ → Wrote l a (boardLines h c) l₁ a₁
+  unfolding boardLines
+  bag-read n r w = subst (λ k. Wrote l a (each (bagLine h c) k) l₁ a₁) r w

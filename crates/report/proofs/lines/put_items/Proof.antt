@@ -1,0 +1,49 @@
+-- The items passed are written.
+use Prim.Native.Nat.{_≤_, _-_}
+use borrow.Author.Needs.{needs}
+use Rattle.text.specs.Wrote.{Wrote, each}
+use Rattle.text.proofs.Writing.{each-none, each-more, each-all}
+use Rattle.report.specs.Lines.{boardItem}
+use Rattle.report.proofs.lines.put_items.Statement.{statement}
+use Rattle.report.proofs.lines.put_items.Tie as tie
+
+abbrev Inv-loop : tie.InvT-loop
+Inv-loop out₀ at board m to₀ x₀ out to x = (x ≤ m) × Wrote out₀ at (each (boardItem board) x) out to
+
+abbrev μ-loop : tie.MeasureT-loop
+μ-loop out₀ at board m to₀ x₀ out to x = m - x
+
+loop-holds : tie.Need-loop-holds Inv-loop μ-loop
+loop-holds c = (search needs, each-none _)
+
+put-item-requires : tie.Need-put-item-requires Inv-loop μ-loop
+put-item-requires c κs = search needs
+
+add-x : tie.Need-add-x Inv-loop μ-loop
+add-x c = search needs
+
+loop-less : tie.Need-loop-less Inv-loop μ-loop
+loop-less c = search needs
+
+loop-again : tie.Need-loop-again Inv-loop μ-loop
+loop-again c = (search needs, search each-more depth 6)
+
+same-length : tie.Need-same-length Inv-loop μ-loop
+same-length c = c .before .loop .inv .1 .long
+
+returns : tie.Need-returns Inv-loop μ-loop
+returns c = each-all _ _ _ (c .before .loop .inv .0) (c .loop-test .left) (c .before .loop .inv .1)
+
+pub put-items-spec : {M : Type 1} → statement M
+put-items-spec =
+    tie.close
+    (tie.spec
+    Inv-loop
+    μ-loop
+    loop-holds
+    put-item-requires
+    add-x
+    loop-less
+    loop-again
+    same-length
+    returns)

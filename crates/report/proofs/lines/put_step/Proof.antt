@@ -1,0 +1,31 @@
+-- The parts of the line, one after the other.
+use Rattle.text.proofs.Writing.{_▷_}
+use Rattle.report.specs.Lines.{stepLine}
+use borrow.Author.Needs.{needs}
+use Rattle.report.proofs.lines.put_step.Statement.{statement}
+use Rattle.report.proofs.lines.put_step.Tie as tie
+
+put-decimal-requires : tie.Need-put-decimal-requires
+put-decimal-requires c κs = search needs
+
+put-small-requires : tie.Need-put-small-requires
+put-small-requires c κs = search needs
+
+put-byte-requires : tie.Need-put-byte-requires
+put-byte-requires c κs = search needs
+
+same-length : tie.Need-same-length
+same-length c = search needs
+
+returns : tie.Need-returns
+unfolding stepLine
+returns c =
+    let last = c .before .before in
+    let answer = last .before .before .before .before in
+    let number = answer .before .before .before .before in
+    number .put-decimal .ensures ▷ answer .put-small .ensures ▷ last .put-byte .ensures
+
+pub put-step-spec : {M : Type 1} → statement M
+put-step-spec =
+    tie.close
+    (tie.spec put-decimal-requires put-small-requires put-byte-requires same-length returns)

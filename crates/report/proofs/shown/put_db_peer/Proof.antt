@@ -1,0 +1,57 @@
+-- The periods passed are written.
+use Prim.Native.Nat.{_+_, _≤_, _-_}
+use borrow.Author.Needs.{needs}
+use Rattle.state.specs.Contents.{contents}
+use Rattle.text.specs.Wrote.{Wrote, each}
+use Rattle.text.proofs.Writing.{each-none, each-more, each-all}
+use Rattle.report.specs.State.{dbPeer, dbPeriod}
+use Rattle.report.proofs.shown.put_db_peer.Statement.{statement}
+use Rattle.report.proofs.shown.put_db_peer.Tie as tie
+
+abbrev Inv-loop : tie.InvT-loop
+Inv-loop out₀ at s h k to₀ p₀ out to p = (p ≤ h .periods) × Wrote out₀ at (each (dbPeriod h (contents s) (k + 1)) p) out to
+
+abbrev μ-loop : tie.MeasureT-loop
+μ-loop out₀ at s h k to₀ p₀ out to p = h .periods - p
+
+loop-holds : tie.Need-loop-holds Inv-loop μ-loop
+loop-holds c = (search needs, each-none _)
+
+add-put-db-period : tie.Need-add-put-db-period Inv-loop μ-loop
+add-put-db-period c = search needs
+
+put-db-period-requires : tie.Need-put-db-period-requires Inv-loop μ-loop
+put-db-period-requires c κs = search needs
+
+add-p : tie.Need-add-p Inv-loop μ-loop
+add-p c = search needs
+
+loop-less : tie.Need-loop-less Inv-loop μ-loop
+loop-less c = search needs
+
+loop-again : tie.Need-loop-again Inv-loop μ-loop
+loop-again c = (search needs, search each-more depth 6)
+
+same-length : tie.Need-same-length Inv-loop μ-loop
+same-length c = c .before .before .loop .inv .1 .long
+
+returns : tie.Need-returns Inv-loop μ-loop
+unfolding dbPeer
+returns c =
+    let done = c .before .before .loop .inv in
+    each-all _ _ _ (done .0) (c .if1 .left) (done .1)
+
+pub put-db-peer-spec : {M : Type 1} → statement M
+put-db-peer-spec =
+    tie.close
+    (tie.spec
+    Inv-loop
+    μ-loop
+    loop-holds
+    add-put-db-period
+    put-db-period-requires
+    add-p
+    loop-less
+    loop-again
+    same-length
+    returns)

@@ -1,0 +1,148 @@
+// What the report shows of a state: databases, receipts, boards, and its last line.
+ghost use Prim.Native.Nat.{_+_, _<_, _≤_};
+ghost use Rattle.rules.specs.Bag.{entryAt};
+ghost use Rattle.state.specs.Contents.{contents, Canon};
+ghost use Rattle.text.specs.Wrote.{Wrote};
+ghost use Rattle.report.specs.State.{dbItem, dbPeriod, dbPeer, dbLines, receiptItem, receiptPeriod, receiptLines};
+ghost use Rattle.report.specs.State.{entryLine, bagLine, boardLines, stateLines};
+use crate::lines::put_board;
+use crate::lines::put_db;
+use crate::lines::put_receipt;
+use rules::Entry;
+use state::Fact;
+use state::bag::bag_len;
+use state::bag::entry_at;
+use state::facts::is_there;
+use state::sets::signer_count;
+use text::put_word;
+use view::Head;
+
+fn put_db_item(out: &mut [u8], at: usize, s: &[u8], j: u8, p: u8, x: u8) -> usize
+    requires { ⌜ Canon (now s) ⌝ }
+    ensures { λ to. ⌜ Wrote (now (out .entry)) at (dbItem (contents (now (s .entry))) j p x) (now (out .exit)) to ⌝ }
+{
+    let signers = signer_count(s, j, p, x);
+    if 0 < signers {
+        return put_db(out, at, j, p, x, signers);
+    }
+    at
+}
+
+fn put_db_period(out: &mut [u8], at: usize, s: &[u8], h: Head, j: u8, p: u8) -> usize
+    requires { ⌜ Canon (now s) ⌝ }
+    ensures { λ to. ⌜ Wrote (now (out .entry)) at (dbPeriod h (contents (now (s .entry))) j p) (now (out .exit)) to ⌝ }
+{
+    let mut to = at;
+    let mut x: u8 = 0;
+    while x < h.items {
+        to = put_db_item(out, to, s, j, p, x);
+        x += 1;
+    }
+    to
+}
+
+// The database of peer k + 1.
+fn put_db_peer(out: &mut [u8], at: usize, s: &[u8], h: Head, k: u8) -> usize
+    requires { ⌜ Canon (now s) × (k < 16) ⌝ }
+    ensures { λ to. ⌜ Wrote (now (out .entry)) at (dbPeer h (contents (now (s .entry))) k) (now (out .exit)) to ⌝ }
+{
+    let mut to = at;
+    let mut p: u8 = 0;
+    while p < h.periods {
+        to = put_db_period(out, to, s, h, k + 1, p);
+        p += 1;
+    }
+    to
+}
+
+fn put_dbs(out: &mut [u8], at: usize, s: &[u8], h: Head) -> usize
+    requires { ⌜ Canon (now s) × (h .n ≤ 16) ⌝ }
+    ensures { λ to. ⌜ Wrote (now (out .entry)) at (dbLines h (contents (now (s .entry)))) (now (out .exit)) to ⌝ }
+{
+    let mut to = at;
+    let mut k: u8 = 0;
+    while k < h.n {
+        to = put_db_peer(out, to, s, h, k);
+        k += 1;
+    }
+    to
+}
+
+fn put_receipt_item(out: &mut [u8], at: usize, s: &[u8], p: u8, x: u8) -> usize
+    requires { ⌜ Canon (now s) ⌝ }
+    ensures { λ to. ⌜ Wrote (now (out .entry)) at (receiptItem (contents (now (s .entry))) p x) (now (out .exit)) to ⌝ }
+{
+    if is_there(s, Fact::Receipted(p, x)) {
+        return put_receipt(out, at, p, x);
+    }
+    at
+}
+
+fn put_receipt_period(out: &mut [u8], at: usize, s: &[u8], h: Head, p: u8) -> usize
+    requires { ⌜ Canon (now s) ⌝ }
+    ensures { λ to. ⌜ Wrote (now (out .entry)) at (receiptPeriod h (contents (now (s .entry))) p) (now (out .exit)) to ⌝ }
+{
+    let mut to = at;
+    let mut x: u8 = 0;
+    while x < h.items {
+        to = put_receipt_item(out, to, s, p, x);
+        x += 1;
+    }
+    to
+}
+
+fn put_receipts(out: &mut [u8], at: usize, s: &[u8], h: Head) -> usize
+    requires { ⌜ Canon (now s) ⌝ }
+    ensures { λ to. ⌜ Wrote (now (out .entry)) at (receiptLines h (contents (now (s .entry)))) (now (out .exit)) to ⌝ }
+{
+    let mut to = at;
+    let mut p: u8 = 0;
+    while p < h.periods {
+        to = put_receipt_period(out, to, s, h, p);
+        p += 1;
+    }
+    to
+}
+
+fn put_entry(out: &mut [u8], at: usize, h: Head, x: Entry) -> usize
+    requires { ⌜ h .items ≤ 64 ⌝ }
+    ensures { λ to. ⌜ Wrote (now (out .entry)) at (entryLine h x) (now (out .exit)) to ⌝ }
+{
+    match x {
+        Entry::Hash(_, _, _) => at,
+        Entry::Backing(_, _, _) => at,
+        Entry::Board(p, board) => put_board(out, at, h.items, p, board),
+    }
+}
+
+fn put_bag_entry(out: &mut [u8], at: usize, s: &[u8], h: Head, e: usize) -> usize
+    requires { ⌜ Canon (now s) × (h .items ≤ 64) ⌝ }
+    ensures { λ to. ⌜ Wrote (now (out .entry)) at (bagLine h (contents (now (s .entry))) e) (now (out .exit)) to ⌝ }
+{
+    put_entry(out, at, h, entry_at(s, e))
+}
+
+fn put_boards(out: &mut [u8], at: usize, s: &[u8], h: Head) -> usize
+    requires { ⌜ Canon (now s) × (h .items ≤ 64) ⌝ }
+    ensures { λ to. ⌜ Wrote (now (out .entry)) at (boardLines h (contents (now (s .entry)))) (now (out .exit)) to ⌝ }
+{
+    let n = bag_len(s);
+    let mut to = at;
+    let mut e = 0;
+    while e < n {
+        to = put_bag_entry(out, to, s, h, e);
+        e += 1;
+    }
+    to
+}
+
+// The report from its databases to its end.
+pub fn put_state(out: &mut [u8], at: usize, s: &[u8], h: Head) -> usize
+    requires { ⌜ Canon (now s) × (h .n ≤ 16) × (h .items ≤ 64) ⌝ }
+    ensures { λ to. ⌜ Wrote (now (out .entry)) at (stateLines h (contents (now (s .entry)))) (now (out .exit)) to ⌝ }
+{
+    let a = put_dbs(out, at, s, h);
+    let b = put_receipts(out, a, s, h);
+    let c = put_boards(out, b, s, h);
+    put_word(out, c, b"end\n")
+}

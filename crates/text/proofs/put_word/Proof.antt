@@ -1,0 +1,55 @@
+-- The first i bytes of the word are written, by `word-more`.
+use Prim.Native.Nat.{_≤_, _-_}
+use lib.ListN.{length, take}
+use borrow.Author.Needs.{needs}
+use Rattle.text.specs.Wrote.{Wrote}
+use Rattle.text.proofs.Writing.{none, word-more, word-all}
+use Rattle.text.proofs.put_word.Statement.{statement}
+use Rattle.text.proofs.put_word.Tie as tie
+
+abbrev Inv-loop : tie.InvT-loop
+Inv-loop out₀ at word to₀ i₀ out to i = (i ≤ length word) × Wrote out₀ at (take i word) out to
+
+abbrev μ-loop : tie.MeasureT-loop
+μ-loop out₀ at word to₀ i₀ out to i = length word - i
+
+loop-holds : tie.Need-loop-holds Inv-loop μ-loop
+loop-holds c = (search needs, none)
+
+shared-slice-read-put-byte : tie.Need-shared-slice-read-put-byte Inv-loop μ-loop
+shared-slice-read-put-byte c = search needs
+
+put-byte-requires : tie.Need-put-byte-requires Inv-loop μ-loop
+put-byte-requires c κs = search needs
+
+add-i : tie.Need-add-i Inv-loop μ-loop
+add-i c = search needs
+
+loop-less : tie.Need-loop-less Inv-loop μ-loop
+loop-less c = search needs
+
+loop-again : tie.Need-loop-again Inv-loop μ-loop
+loop-again c =
+    let turn = c .before .before .before .before .before in
+    (search needs, word-more _ _ (turn .loop-test .taken) (turn .before .loop .inv .1) (c .before .before .put-byte .ensures))
+
+same-length : tie.Need-same-length Inv-loop μ-loop
+same-length c = c .before .loop .inv .1 .long
+
+returns : tie.Need-returns Inv-loop μ-loop
+returns c = word-all _ _ (c .loop-test .left) (c .before .loop .inv .1)
+
+pub put-word-spec : {M : Type 1} → statement M
+put-word-spec =
+    tie.close
+    (tie.spec
+    Inv-loop
+    μ-loop
+    loop-holds
+    shared-slice-read-put-byte
+    put-byte-requires
+    add-i
+    loop-less
+    loop-again
+    same-length
+    returns)
