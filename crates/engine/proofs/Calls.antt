@@ -1,7 +1,8 @@
 -- What fresh and step answer and leave, at each return.
 use Prim.Native.Nat.{ℕ}
+use native.Mathlib.Omega.{arith}
 use mathlib.Core.Bool.{Bool, true, false}
-use mathlib.Core.List.{List}
+use mathlib.Core.List.{List, []}
 use mathlib.Core.Path.{_≡_, refl, sym, ap, subst, _∙_}
 use lib.ListN.{length, replicate}
 use borrow.Author.Tests.{eq-eqb, ne-eqb}
@@ -19,9 +20,9 @@ use Rattle.state.specs.Layout.{size}
 use Rattle.view.specs.declared.Head.{Head}
 use Rattle.valid.specs.StateOk.{stateOk}
 use Rattle.valid.specs.Ready.{Room, Ready}
-use Rattle.valid.proofs.Ready.{ready-of-ok}
+use Rattle.valid.proofs.Ready.{ready-of-ok, ok-of-ready}
 use Rattle.advance.specs.Stepped.{Stepped}
-use Rattle.engine.specs.Engine.{headOf, leaveOn, stepAnswer, stepBytes, freshAnswer, freshBytes, freshState}
+use Rattle.engine.specs.Engine.{headOf, Prepared, leaveOn, stepAnswer, stepBytes, freshAnswer, freshBytes, freshState}
 
 -- a header, field by field
 pub all-read : (table : List ℕ) (n t honest periods items : ℕ) → n ≡ peersOf table → t ≡ thresholdOf table → honest ≡ honestOf table → periods ≡ periodsOf table → items ≡ itemsOf table
@@ -50,8 +51,8 @@ module _ (table : List ℕ) {r : ℕ} (checked : r ≡ refusal table) where
     pub room-read : (h : Head) → h ≡ headOf table → Room h
     room-read h e = subst (λ h. Room h) (sym e) room-of
 
-    pub items-read : (h : Head) → h ≡ headOf table → h .items ≡ itemsOf table
-    items-read h e = ap (λ (h : Head). h .items) e
+    pub prepared : (h : Head) → h ≡ headOf table → Prepared table h []
+    prepared h e = record { taken = fit; head = e; clashes = record { row = λ k l. absurd (omega arith) } }
 
     module _ (s : List ℕ) where
       pub fresh-length-refused : (length s ≡ size → ⊥) → (14 ≡ freshAnswer table s) × (s ≡ freshBytes table s)
@@ -74,12 +75,20 @@ module _ (table : List ℕ) {r : ℕ} (checked : r ≡ refusal table) where
           unfolding stepAnswer stepBytes
           step-state-refused n = (rw (fit, sym state-test, n), rw (fit, sym state-test, n))
 
-          pub step-form-refused : ok ≡ true → (c : Call) → c ≡ read step → c ≡ Malformed → (5 ≡ stepAnswer table s step) × (s ≡ stepBytes table s step)
-          unfolding stepAnswer stepBytes reply
-          step-form-refused y c e m = (rw (fit, sym state-test, y, sym e, m), rw (fit, sym state-test, y, sym e, m))
+-- a step on a table and a state that were judged before
+module _ {table : List ℕ} {h : Head} {rows : List ℕ} (P : Prepared table h rows) {s : List ℕ} (R : Ready h (clashIn table) s) (step : List ℕ) where
+  state-taken : stateOk (headOf table) s ≡ true
+  state-taken = subst (λ h. stateOk h s ≡ true) (P .head) (ok-of-ready h (clashIn table) s R)
 
-          pub step-judged : ok ≡ true → (c : Call) → c ≡ read step → (st : Step) → c ≡ Formed st → (t : List ℕ) (a : ℕ) → Stepped h (clashIn table) s t st a → (a ≡ stepAnswer table s step) × (t ≡ stepBytes table s step)
-          unfolding stepAnswer stepBytes reply leaveOn
-          step-judged y c e st m t a p =
-              let q = subst (λ h. Stepped h (clashIn table) s t st a) head p in
-              (rw (fit, sym state-test, y, sym e, m) (q .answers), rw (fit, sym state-test, y, sym e, m, sym (q .answers)) (q .leaves))
+  pub form-refused : (c : Call) → c ≡ read step → c ≡ Malformed → (5 ≡ stepAnswer table s step) × (s ≡ stepBytes table s step)
+  unfolding stepAnswer stepBytes reply
+  form-refused c e m = (rw (P .taken, state-taken, sym e, m), rw (P .taken, state-taken, sym e, m))
+
+  pub step-judged : (c : Call) → c ≡ read step → (st : Step) → c ≡ Formed st → (t : List ℕ) (a : ℕ) → Stepped h (clashIn table) s t st a → (a ≡ stepAnswer table s step) × (t ≡ stepBytes table s step)
+  unfolding stepAnswer stepBytes reply leaveOn
+  step-judged c e st m t a p =
+      let q = subst (λ h. Stepped h (clashIn table) s t st a) (P .head) p in
+      (rw (P .taken, state-taken, sym e, m) (q .answers), rw (P .taken, state-taken, sym e, m, sym (q .answers)) (q .leaves))
+
+pub items-read : {table : List ℕ} {h : Head} {rows : List ℕ} → Prepared table h rows → h .items ≡ itemsOf table
+items-read P = ap (λ (h : Head). h .items) (P .head)

@@ -2,10 +2,11 @@
 use Prim.Native.Nat.{ℕ}
 use mathlib.Core.Bool.{cond}
 use mathlib.Core.List.{List}
+use mathlib.Core.Path.{_≡_}
 use lib.Dec.{eqb}
 use lib.ListN.{length, replicate}
 use Rattle.ballot.specs.Header.{peersOf, thresholdOf, honestOf, periodsOf, itemsOf}
-use Rattle.ballot.specs.Clash.{clashIn}
+use Rattle.ballot.specs.Clash.{clashIn, RowsOf}
 use Rattle.ballot.specs.Table.{refusal}
 use Rattle.rules.specs.declared.Call.{Call}
 use Rattle.rules.specs.declared.Call.the-variants.{Formed, Malformed}
@@ -27,6 +28,12 @@ headOf table = record { n = peersOf table; t = thresholdOf table; honest = hones
 -- a table's bytes as the table of the rules
 abbrev pub boardTable : List ℕ → Table
 boardTable table = tableOf (headOf table) (clashIn table)
+
+-- what is made once of a table that is not refused: its header, and the first of its rows of clashes
+pub record Prepared (table : List ℕ) (h : Head) (rows : List ℕ) : Type 0 where
+  pub taken : refusal table ≡ 0
+  pub head : h ≡ headOf table
+  pub clashes : RowsOf table rows
 
 -- what a call that is not refused does to the contents
 unfoldable pub leaveOn : Table → Contents → Call → Contents

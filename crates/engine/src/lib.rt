@@ -1,7 +1,9 @@
 // The engine: fresh and step, for any bytes. The table and the state are validated once for each call; the inner step re-validates nothing.
 ghost use mathlib.Core.Path.{_≡_};
 ghost use lib.ListN.{length, replicate};
-ghost use Rattle.engine.specs.Engine.{headOf, stepAnswer, stepBytes, freshAnswer, freshBytes};
+ghost use Rattle.ballot.specs.Clash.{clashIn};
+ghost use Rattle.valid.specs.Ready.{Ready};
+ghost use Rattle.engine.specs.Engine.{headOf, Prepared, stepAnswer, stepBytes, freshAnswer, freshBytes};
 use ballot::check_table;
 use ballot::header;
 use rules::Call;
@@ -9,7 +11,7 @@ use state::layout::SIZE;
 use view::Head;
 
 // The header of a table, read once.
-fn head_of(table: &[u8]) -> Head
+pub fn head_of(table: &[u8]) -> Head
     ensures { λ r. ⌜ r ≡ headOf (now (table .entry)) ⌝ }
 {
     Head {
@@ -22,7 +24,7 @@ fn head_of(table: &[u8]) -> Head
 }
 
 // Writes 0 in every byte.
-fn clear(s: &mut [u8])
+pub fn clear(s: &mut [u8])
     ensures { λ _. ⌜ now (s .exit) ≡ replicate (length (now (s .entry))) 0 ⌝ }
 {
     let mut i = 0;
@@ -47,6 +49,17 @@ pub fn fresh(table: &[u8], s: &mut [u8]) -> u8
     0
 }
 
+// A step on a table that was taken, with what was made of it once, and on a state that is ready: nothing is validated again.
+pub fn run_step(table: &[u8], s: &mut [u8], h: Head, rows: &[u64], step: &[u8]) -> u8
+    requires { ⌜ Prepared (now table) h (now rows) × Ready h (clashIn (now table)) (now s) ⌝ }
+    ensures { λ r. ⌜ (r ≡ stepAnswer (now (table .entry)) (now (s .entry)) (now (step .entry))) × (now (s .exit) ≡ stepBytes (now (table .entry)) (now (s .entry)) (now (step .entry))) ⌝ }
+{
+    match rules::read_step(step) {
+        Call::Formed(st) => advance::advance(table, s, h, rows, st),
+        Call::Malformed => 5,
+    }
+}
+
 // Takes a step, or answers the first refusal that applies; what is refused alters nothing.
 pub fn step(table: &[u8], s: &mut [u8], step: &[u8]) -> u8
     ensures { λ r. ⌜ (r ≡ stepAnswer (now (table .entry)) (now (s .entry)) (now (step .entry))) × (now (s .exit) ≡ stepBytes (now (table .entry)) (now (s .entry)) (now (step .entry))) ⌝ }
@@ -59,8 +72,5 @@ pub fn step(table: &[u8], s: &mut [u8], step: &[u8]) -> u8
     if !valid::state_ok(s, h) {
         return 14;
     }
-    match rules::read_step(step) {
-        Call::Formed(st) => advance::advance(table, s, h, &[], st),
-        Call::Malformed => 5,
-    }
+    run_step(table, s, h, &[], step)
 }
