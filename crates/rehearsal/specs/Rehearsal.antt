@@ -48,4 +48,4 @@ stateLeft input s = cond (eqb (length s) size && eqb (inputRefusal input) 0) (la
 
 -- no report is longer
 abbrev pub reportMost : ℕ
-reportMost = 280000
+reportMost = 222000

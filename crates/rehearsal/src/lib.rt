@@ -1,4 +1,30 @@
 // The rehearsal: for any input bytes the whole report, in a lent state and a lent output.
 // The table is validated once, its rows of clashes are made once, and each step is run in place.
+ghost use mathlib.Core.Path.{_≡_};
+ghost use Prim.Native.Nat.{_≤_};
+ghost use lib.ListN.{length};
+ghost use Rattle.text.specs.Wrote.{over};
+ghost use Rattle.rehearsal.specs.Rehearsal.{reported, stateLeft, reportMost};
+use report::lines::put_refused;
+use state::layout::SIZE;
 
 mod input; // where the table ends, what is refused, and the steps
+mod run; // the steps, and the report around them
+
+// Rehearses the input and answers the report's length; as much of the report as fits is written.
+// A state of the wrong length gives no report; a refused input leaves the state as it was.
+pub fn rehearse(input: &[u8], s: &mut [u8], out: &mut [u8]) -> usize
+    ensures { λ r. ⌜ r ≡ length (reported (now (input .entry)) (now (s .entry))) ⌝ }
+    ensures { λ r. ⌜ r ≤ reportMost ⌝ }
+    ensures { λ _. ⌜ now (out .exit) ≡ over (now (out .entry)) 0 (reported (now (input .entry)) (now (s .entry))) ⌝ }
+    ensures { λ _. ⌜ now (s .exit) ≡ stateLeft (now (input .entry)) (now (s .entry)) ⌝ }
+{
+    if s.len() != SIZE {
+        return 0;
+    }
+    let refusal = input::check_input(input);
+    if refusal != 0 {
+        return put_refused(out, 0, refusal);
+    }
+    run::play(input, input::table_in(input), s, out)
+}

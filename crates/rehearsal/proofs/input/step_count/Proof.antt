@@ -15,7 +15,7 @@ add-result c = search needs
 
 returns : tie.Need-returns
 unfolding stepCount
-returns c = simp (c .before .table-end .ensures)
+returns c = simp (c .table-end .ensures)
 
 pub step-count-spec : {M : Type 1} → statement M
 step-count-spec = tie.close (tie.spec table-end-requires sub-result add-result returns)

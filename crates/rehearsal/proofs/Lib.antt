@@ -1,0 +1,4 @@
+pub mod Taking
+pub mod States
+pub mod Sizes
+pub mod Playing

@@ -1,0 +1,75 @@
+-- The report from its parts, and the three ways in which a rehearsal ends.
+use Prim.Native.Nat.{ℕ, _+_, _^_, _≤_, _<_}
+use native.Mathlib.Omega.{arith}
+use mathlib.Core.Bool.{Bool, true, false}
+use mathlib.Core.List.{List, []}
+use mathlib.Core.Path.{_≡_, refl, sym, ap, subst, _∙_}
+use lib.ListN.{length, replicate}
+use borrow.Author.Tests.{eq-eqb, ne-eqb}
+use Rattle.ballot.specs.Header.{peersOf, thresholdOf, honestCount}
+use Rattle.ballot.specs.Clash.{clashIn, RowsOf}
+use Rattle.ballot.specs.Table.{refusal}
+use Rattle.state.specs.Layout.{size}
+use Rattle.state.specs.Contents.{contents, Canon}
+use Rattle.view.specs.declared.Head.{Head}
+use Rattle.valid.specs.Ready.{Ready}
+use Rattle.engine.specs.Engine.{headOf, freshState}
+use Rattle.text.specs.Wrote.{over, Wrote}
+use Rattle.text.proofs.Writing.{_▷_, renamed}
+use Rattle.report.specs.Lines.{refusedLine, headLine}
+use Rattle.report.specs.State.{stateLines}
+use Rattle.rehearsal.specs.Input.{tableIn, inputRefusal, stepCount}
+use Rattle.rehearsal.specs.Rehearsal.{stateAt, lastState, reportOf, rehearsal, reported, stateLeft, reportMost}
+use Rattle.rehearsal.specs.Running.{Taken, Made, Ran}
+use Rattle.rehearsal.proofs.States.{ready-now}
+use Rattle.rehearsal.proofs.Sizes.{rehearsal-most}
+
+pub cleared : (input t : List ℕ) (n : ℕ) → n ≡ size → t ≡ replicate n 0 → t ≡ stateAt input 0
+unfolding stateAt freshState
+cleared input t n long zeros = zeros ∙ ap (λ (k : ℕ). replicate k 0) long
+
+module _ {input table : List ℕ} {h : Head} {rows : List ℕ} (T : Taken input) (cut : table ≡ tableIn input) (head : h ≡ headOf table) (clashes : RowsOf table rows) where
+  pub made : Made input table h rows
+  made = record { taken = T; cut = cut; prepared = record { taken = ap refusal cut ∙ T .table; head = head; clashes = clashes } }
+
+  module _ {a b : ℕ} {s mid more : List ℕ} (ran : Ran input (stepCount input) s mid a more b) where
+    pub showable : Canon s × (h .n ≤ 16) × (h .items ≤ 64)
+    showable =
+        let R = ready-now made (stepCount input) (ran .state) in
+        (R .canon, R .room .peers, R .room .items)
+
+    first-line : (n : ℕ) → n ≡ honestCount table → headLine (h .n) (h .t) n ≡ headLine (peersOf (tableIn input)) (thresholdOf (tableIn input)) (honestCount (tableIn input))
+    first-line n honest = rw (head, honest, cut)
+
+    state-shown : stateLines h (contents s) ≡ stateLines (headOf (tableIn input)) (contents (stateAt input (stepCount input)))
+    state-shown = rw (head, cut, ran .state)
+
+    pub played : {n to : ℕ} {out is : List ℕ} → n ≡ honestCount table → Wrote out 0 (headLine (h .n) (h .t) n) mid a → Wrote more b (stateLines h (contents s)) is to → (s ≡ lastState input) × Wrote out 0 (reportOf input) is to
+    unfolding lastState reportOf
+    played {n} honest first shown = (ran .state, renamed (first-line n honest) first ▷ ran .lines ▷ renamed state-shown shown)
+
+-- what `rehearse` promises
+abbrev pub Promised : List ℕ → List ℕ → List ℕ → List ℕ → List ℕ → ℕ → Type 0
+Promised input s out t is r = (r ≡ length (reported input s)) × ((r ≤ reportMost) × ((is ≡ over out 0 (reported input s)) × (t ≡ stateLeft input s)))
+
+module _ (input s out : List ℕ) where
+  pub no-report : (length s ≡ size → ⊥) → Promised input s out s out 0
+  unfolding reported stateLeft over
+  no-report wrong = (rw (ne-eqb (length s) size wrong), (omega arith, (rw (ne-eqb (length s) size wrong), rw (ne-eqb (length s) size wrong))))
+
+  module _ (long : length s ≡ size) {t is : List ℕ} {to : ℕ} where
+    written : (text : List ℕ) → rehearsal input ≡ text → Wrote out 0 text is to → t ≡ stateLeft input s → Promised input s out t is to
+    unfolding reported
+    written text e w left =
+        let small : length text ≤ reportMost = subst (λ (u : List ℕ). length u ≤ reportMost) e (rehearsal-most input) in
+        let put = w .put (omega (arith, small)) in
+        rw (eq-eqb (length s) size long, e) (omega (arith, put .place), (omega (arith, put .place, small), (put .bytes, left)))
+
+    module _ {r : ℕ} (judged : r ≡ inputRefusal input) where
+      pub refused : (r ≡ 0 → ⊥) → Wrote out 0 (refusedLine r) is to → t ≡ s → Promised input s out t is to
+      unfolding rehearsal stateLeft
+      refused bad w same = written (refusedLine r) (rw (← judged, ne-eqb r 0 bad)) w (rw (← judged, ne-eqb r 0 bad, eq-eqb (length s) size long) same)
+
+      pub reports : r ≡ 0 → (t ≡ lastState input) × Wrote out 0 (reportOf input) is to → Promised input s out t is to
+      unfolding rehearsal stateLeft
+      reports good p = written (reportOf input) (rw (← judged, good)) (p .1) (rw (← judged, good, eq-eqb (length s) size long) (p .0))

@@ -1,0 +1,121 @@
+-- No rehearsal's output is longer than `reportMost`.
+use Prim.Native.Nat.{ℕ, _+_, _*_, _≤_, _<_}
+use native.Mathlib.Omega.{arith}
+use mathlib.Core.Bool.{Bool, true, false, cond}
+use mathlib.Core.List.{List, [], _∷_, _++_}
+use mathlib.Core.Logic.{_⊎_, inl, inr}
+use mathlib.Core.Path.{_≡_, refl, sym, _∙_}
+use lib.Dec.{eqb}
+use lib.ListN.{length, length-append}
+use borrow.Author.Tests.{eqb-true}
+use Rattle.base.specs.Refusals.{Refusals, first}
+use Rattle.base.specs.Weight.{ones, all}
+use Rattle.base.proofs.Truth.{either}
+use Rattle.base.proofs.Weight.{weight-mono, count-all}
+use Rattle.ballot.specs.Header.{peersOf, thresholdOf, isHonest, honestCount}
+use Rattle.ballot.specs.Clash.{clashIn}
+use Rattle.ballot.specs.Table.{tableRefusals}
+use Rattle.ballot.proofs.Sound.{sound}
+use Rattle.rules.specs.declared.Step.{Step}
+use Rattle.rules.specs.declared.Step.the-variants.{Post, Hand, Sign, Take, Share, Receipt, Close, Fetch, SendHash, Hear, Back, Publish, FalseSignature, FalseShare, FalseHash, FalseBacking, Down, Up}
+use Rattle.rules.specs.declared.Call.{Call}
+use Rattle.rules.specs.declared.Call.the-variants.{Formed, Malformed}
+use Rattle.rules.specs.Table.{Table}
+use Rattle.rules.specs.State.{State}
+use Rattle.rules.specs.Form.{read}
+use Rattle.rules.specs.Rules.{rule, answer, reply}
+use Rattle.state.specs.Contents.{contents}
+use Rattle.view.specs.View.{stateOf}
+use Rattle.engine.specs.Engine.{headOf, boardTable, stepAnswer}
+use Rattle.engine.proofs.Fits.{good-fits}
+use Rattle.engine.proofs.Steps.{step-answers}
+use Rattle.text.specs.Wrote.{each}
+use Rattle.report.specs.Lines.{refusedLine, headLine, stepLine}
+use Rattle.report.specs.State.{stateLines}
+use Rattle.report.proofs.Sizes.{each-most, refused-most, head-most, step-most, state-most}
+use Rattle.rehearsal.specs.Input.{tableIn, inputRefusals, inputRefusal, stepCount, callAt}
+use Rattle.rehearsal.specs.Rehearsal.{stateAt, stepAt, lastState, reportOf, rehearsal, reportMost}
+use Rattle.rehearsal.specs.Running.{Taken}
+use Rattle.rehearsal.proofs.Taking.{taken}
+use Rattle.rehearsal.proofs.States.{state-ready}
+
+-- an answer is one of its refusals' numbers, and so at most their sum
+abbrev total : Refusals → ℕ
+total [] = 0
+total (r ∷ rest) = r .0 + total rest
+
+first-most : (l : Refusals) → first l ≤ total l
+unfolding first
+first-most [] = omega arith
+first-most (r ∷ rest) = go (r .1) (first-most rest)
+  where
+    go : (b : Bool) → first rest ≤ total rest → cond b (r .0) (first rest) ≤ r .0 + total rest
+    go true l = omega arith
+    go false l = omega (arith, l)
+
+module _ (T : Table) (s : State) where
+  answer-small : (st : Step) → answer T s st < 100
+  unfolding answer rule
+  answer-small (Post x) = omega (arith, first-most (rule T s (Post x) .refusals))
+  answer-small (Hand j x) = omega (arith, first-most (rule T s (Hand j x) .refusals))
+  answer-small (Sign j x) = omega (arith, first-most (rule T s (Sign j x) .refusals))
+  answer-small (Take j k p x) = omega (arith, first-most (rule T s (Take j k p x) .refusals))
+  answer-small (Share j x) = omega (arith, first-most (rule T s (Share j x) .refusals))
+  answer-small (Receipt p x) = omega (arith, first-most (rule T s (Receipt p x) .refusals))
+  answer-small (Close j) = omega (arith, first-most (rule T s (Close j) .refusals))
+  answer-small (Fetch j k p) = omega (arith, first-most (rule T s (Fetch j k p) .refusals))
+  answer-small (SendHash j p) = omega (arith, first-most (rule T s (SendHash j p) .refusals))
+  answer-small (Hear j e) = omega (arith, first-most (rule T s (Hear j e) .refusals))
+  answer-small (Back j) = omega (arith, first-most (rule T s (Back j) .refusals))
+  answer-small (Publish e) = omega (arith, first-most (rule T s (Publish e) .refusals))
+  answer-small (FalseSignature j p x) = omega (arith, first-most (rule T s (FalseSignature j p x) .refusals))
+  answer-small (FalseShare j p x) = omega (arith, first-most (rule T s (FalseShare j p x) .refusals))
+  answer-small (FalseHash j p B) = omega (arith, first-most (rule T s (FalseHash j p B) .refusals))
+  answer-small (FalseBacking j p B) = omega (arith, first-most (rule T s (FalseBacking j p B) .refusals))
+  answer-small (Down j) = omega (arith, first-most (rule T s (Down j) .refusals))
+  answer-small (Up j) = omega (arith, first-most (rule T s (Up j) .refusals))
+
+  reply-small : (c : Call) → reply T s c < 100
+  unfolding reply
+  reply-small (Formed st) = answer-small st
+  reply-small Malformed = omega arith
+
+refusal-small : (input : List ℕ) → inputRefusal input < 100
+unfolding inputRefusal
+refusal-small input = omega (arith, first-most (inputRefusals input))
+
+module _ (input : List ℕ) (T : Taken input) where
+  abbrev table : List ℕ
+  table = tableIn input
+
+  lines-most : length (each (stepAt input) (stepCount input)) ≤ 5042 * 8
+  unfolding stepAt stepCount
+  lines-most =
+      each-most (stepAt input) 8 (stepCount input) 5042 (omega (arith, T .few)) (λ k l.
+      step-most (k + 1) (stepAnswer table (stateAt input k) (callAt input k)) (omega (arith, T .few, l))
+      (rw (step-answers table (T .table) (stateAt input k) (state-ready input T k) (callAt input k)) (reply-small (boardTable table) (stateOf (contents (stateAt input k))) (read (callAt input k)))))
+
+  shown-most : length (stateLines (headOf table) (contents (lastState input))) ≤ 181252
+  unfolding lastState
+  shown-most =
+      let R = state-ready input T (stepCount input) in
+      let fits = good-fits (headOf table) (clashIn table) (R .room) (contents (stateAt input (stepCount input))) (R .good) in
+      state-most (headOf table) (R .room .peers) (R .room .periods) (R .room .items) (contents (stateAt input (stepCount input))) (fits .counted) (λ e l. omega (arith, fits .entry e l .period))
+
+  first-line-most : length (headLine (peersOf table) (thresholdOf table) (honestCount table)) ≤ 32
+  first-line-most =
+      let S = sound table (T .table) in
+      head-most (peersOf table) (thresholdOf table) (honestCount table) (omega (arith, S .peers-most)) (omega (arith, S .peers-most, S .threshold-most))
+      (omega (arith, S .peers-most, weight-mono ones (peersOf table) (isHonest table) all (λ k q. refl), count-all (peersOf table)))
+
+  report-most : length (reportOf input) ≤ reportMost
+  unfolding reportOf
+  report-most = simp length-append (omega (arith, first-line-most, lines-most, shown-most))
+
+pub rehearsal-most : (input : List ℕ) → length (rehearsal input) ≤ reportMost
+unfolding rehearsal
+rehearsal-most input = go (either (eqb (inputRefusal input) 0))
+  where
+    go : (eqb (inputRefusal input) 0 ≡ true) ⊎ (eqb (inputRefusal input) 0 ≡ false) → length (cond (eqb (inputRefusal input) 0) (reportOf input) (refusedLine (inputRefusal input))) ≤ reportMost
+    go (inl e) = rw e (report-most input (taken input (eqb-true _ 0 e)))
+    go (inr e) = rw e (omega (arith, refused-most (inputRefusal input) (refusal-small input)))
