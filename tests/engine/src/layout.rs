@@ -1,6 +1,7 @@
 //! The state's bytes as docs/STATE.md has them: written from the reference's
 //! state, and read back.
 
+use reference::form::bits;
 use reference::state::{Board, Entry, State};
 use reference::table::Table;
 
@@ -73,11 +74,6 @@ fn encode_entry(entry: &Entry) -> [u8; ENTRY_LENGTH] {
     let mut bytes = [kind, signer as u8, period as u8, 0, 0, 0, 0, 0, 0, 0, 0];
     bytes[3..].copy_from_slice(&bits(board).to_le_bytes());
     bytes
-}
-
-/// A set of items as bits.
-pub fn bits(items: &Board) -> u64 {
-    items.iter().fold(0, |sum, i| sum | 1 << i)
 }
 
 fn set(bytes: &mut [u8], from: usize, bit: usize) {

@@ -3,14 +3,10 @@
 //!
 //! - `layout`: the state's bytes, from docs/STATE.md
 //! - `row14`: which bytes are a state, from document 01's row 14
-//! - `inputs`: random tables and steps
 //! - `pair`: engine and reference on the same calls
-//! - `random`: a small generator
 
-pub mod inputs;
 pub mod layout;
 pub mod pair;
-pub mod random;
 pub mod row14;
 
 mod c {

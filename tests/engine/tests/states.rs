@@ -2,11 +2,12 @@
 //! elsewhere the same answers and bytes as the reference's.
 
 use engine::board_step;
-use engine::inputs::{random_steps, random_table};
 use engine::layout::*;
 use engine::pair::Pair;
-use engine::random::Random;
 use engine::row14::is_state;
+use inputs::random::{run_seed, Random};
+use inputs::steps::random_steps;
+use inputs::tables::random_table;
 use reference::state::Entry;
 
 /// Verdicts, and the answers of the steps after a damage that passes.
@@ -117,10 +118,10 @@ fn follow(random: &mut Random, pair: &Pair, buffer: Vec<u8>, seen: &mut Seen) {
 
 #[test]
 fn same_verdicts() {
-    let (mut seen, mut full) = (Seen::default(), 0);
-    for seed in 0..150 {
-        let mut random = Random::new(1_000_000 + seed);
-        let mut pair = Pair::fresh(random_table(&mut random, [3, 6, 16][seed as usize % 3]));
+    let (seed, mut seen, mut full) = (run_seed(), Seen::default(), 0);
+    for number in 0..150 {
+        let mut random = Random::new(seed, number);
+        let mut pair = Pair::fresh(random_table(&mut random, [3, 6, 16][number % 3]));
         for round in 0..100 {
             if round == 50 {
                 stuff(&mut random, &mut pair);

@@ -1,42 +1,11 @@
 //! Tables of every sort and buffers of every length: the same refusals, and
 //! nothing written by them.
 
-use engine::inputs::random_table;
 use engine::layout::LENGTH;
-use engine::random::Random;
 use engine::{board_fresh, board_state_length, board_step};
+use inputs::random::{run_seed, Random};
+use inputs::tables::damaged_table;
 use reference::table::read_table;
-
-/// A valid table, cut, made longer, with a byte changed or twin items; or any
-/// bytes at all.
-fn damaged_table(random: &mut Random) -> Vec<u8> {
-    let mut table = random_table(random, 16);
-    let at = random.below(table.len());
-    let (length, more) = (random.below(60), random.between(1, 4));
-    match random.below(8) {
-        0 => table.truncate(at),
-        1 => table.extend(random.bytes(more)),
-        2 => table = random.bytes(length),
-        3 => table[random.below(6)] = random.below(20) as u8,
-        4 => table[at] = table[at].wrapping_add([1, 255][random.below(2)]),
-        5 => table[at] = random.bits() as u8,
-        6 => copy_item(random, &mut table),
-        _ => {}
-    }
-    table
-}
-
-/// Writes the bytes of an item over another, as many as there is room for.
-fn copy_item(random: &mut Random, table: &mut [u8]) {
-    let m = table[5] as usize;
-    if m > 0 {
-        let [(from, length), (to, room)] = [random.below(m), random.below(m)].map(|k| {
-            let number = |at| 256 * table[at] as usize + table[at + 1] as usize;
-            (number(6 + 4 * k), number(8 + 4 * k))
-        });
-        table.copy_within(from..from + length.min(room), to);
-    }
-}
 
 /// The answer to a fresh call on a buffer of that length.
 fn expected(table: &[u8], length: usize) -> u8 {
@@ -71,9 +40,9 @@ fn compare(random: &mut Random, text: &[u8], length: usize) -> u8 {
 #[test]
 fn same_refusals() {
     assert_eq!(board_state_length(), LENGTH);
-    let mut seen = [0; 15];
-    for seed in 0..40_000 {
-        let mut random = Random::new(seed);
+    let (seed, mut seen) = (run_seed(), [0; 15]);
+    for number in 0..40_000 {
+        let mut random = Random::new(seed, number);
         let text = damaged_table(&mut random);
         let lengths = [0, 1, LENGTH - 1, LENGTH + 1, 2 * LENGTH];
         let wrong = lengths[random.below(lengths.len())];

@@ -1,6 +1,7 @@
 //! A step and its 13 bytes: op, peer, other, period, item (also entry
 //! number), board (8 bytes, high first).
 
+use crate::state::Board;
 use crate::Refusal;
 
 pub const STEP_LENGTH: usize = 13;
@@ -106,4 +107,9 @@ fn layout(
     bytes[4] = item as u8;
     bytes[5..].copy_from_slice(&board.to_be_bytes());
     bytes
+}
+
+/// A set of items as bits.
+pub fn bits(items: &Board) -> u64 {
+    items.iter().fold(0, |sum, i| sum | 1 << i)
 }

@@ -1,10 +1,9 @@
-//! Random tables, and random steps of which many are taken.
+//! Random steps, of which many are taken.
 
-use crate::layout::bits;
 use crate::random::Random;
-use reference::form::{write_step, Step};
+use reference::form::{bits, write_step, Step};
 use reference::state::{Entry, State};
-use reference::table::{write_table, Table, LEAST_THRESHOLD};
+use reference::table::Table;
 
 /// How often each op is chosen: as often as it is here.
 const OPS: [u8; 38] = [
@@ -12,36 +11,14 @@ const OPS: [u8; 38] = [
     12, 13, 14, 15, 16, 17, 18, 18, 18,
 ];
 
-/// The bytes of a valid table with at most so many peers.
-pub fn random_table(random: &mut Random, most_peers: usize) -> Vec<u8> {
-    let n = random.between(1, most_peers);
-    let least = LEAST_THRESHOLD[n - 1];
-    let t = if random.once_in(3) { random.between(least, n) } else { least };
-    let all = u16::MAX >> (16 - n);
-    let some = random.bits() as u16;
-    let honest = all & [all, some, some | random.bits() as u16, 0][random.below(31) / 10];
-    let most_items = [3, 6, 12, 64][random.below(4)];
-    let m = random.between(0, most_items);
-    let items = random_items(random, m);
-    write_table(n as u8, t as u8, honest, random.between(1, 8) as u8, &items)
+/// The peers that are not honest.
+pub fn liars(table: &Table) -> Vec<usize> {
+    (1..=table.n).filter(|k| !table.is_honest(*k)).collect()
 }
 
-/// Different items, of few ballot numbers.
-fn random_items(random: &mut Random, m: usize) -> Vec<Vec<u8>> {
-    let mut items: Vec<Vec<u8>> = Vec::new();
-    while items.len() < m {
-        let mut item = (random.below(1 + m / 3) as u32).to_be_bytes().to_vec();
-        item.push([1, 1, 2, 3][random.below(4)]);
-        if item[4] == 1 {
-            let most = [1, 2, 32][random.below(3)];
-            let length = random.between(1, most);
-            item.extend(random.bytes(length));
-        }
-        if !items.contains(&item) {
-            items.push(item);
-        }
-    }
-    items
+/// The board of all m items.
+pub fn all_items(m: usize) -> u64 {
+    u64::MAX.checked_shr(64 - m as u32).unwrap_or(0)
 }
 
 /// The next steps of a run: one step, or the same one for all peers.
@@ -70,11 +47,16 @@ fn sweep(step: &[u8], n: usize) -> Vec<Vec<u8>> {
     steps
 }
 
-/// Bytes that are mostly no step: a wrong length, any op, or one byte changed.
+/// Bytes that are mostly no step: a wrong length, any op, an unused byte not 0,
+/// or one byte changed.
 fn malformed(random: &mut Random, mut step: Vec<u8>) -> Vec<u8> {
-    match random.below(3) {
+    match random.below(4) {
         0 => step.resize(random.between(0, 20), 0),
         1 => step[0] = random.bits() as u8,
+        2 => {
+            let at = random.pick(unused(step[0]).into_iter()).unwrap_or(0);
+            step[at] = random.between(1, 255) as u8;
+        }
         _ => step[random.below(13)] = random.bits() as u8,
     }
     step
@@ -89,6 +71,17 @@ fn fields(op: u8) -> [bool; 4] {
     [peer, other, period, item]
 }
 
+fn has_board(op: u8) -> bool {
+    op == 15 || op == 16
+}
+
+/// The places of the bytes that are 0 in every step of an op.
+fn unused(op: u8) -> Vec<usize> {
+    let named = fields(op);
+    let board = if has_board(op) { 13..13 } else { 5..13 };
+    (1..5).filter(|at| !named[at - 1]).chain(board).collect()
+}
+
 /// Any op, with its fields anywhere in range or one beyond.
 fn uniform(random: &mut Random, table: &Table) -> Vec<u8> {
     let op = random.between(1, 18) as u8;
@@ -97,8 +90,8 @@ fn uniform(random: &mut Random, table: &Table) -> Vec<u8> {
     for (named, end) in fields(op).into_iter().zip(ends) {
         step.push(if named { random.between(0, end) as u8 } else { 0 });
     }
-    let reach = !(u64::MAX << 1 << table.m().min(63));
-    let board = if op == 15 || op == 16 { random.bits() & random.bits() & reach } else { 0 };
+    let reach = all_items((table.m() + 1).min(64));
+    let board = if has_board(op) { random.bits() & random.bits() & reach } else { 0 };
     step.extend(board.to_be_bytes());
     step
 }
@@ -165,10 +158,11 @@ fn pick_backing(random: &mut Random, state: &State) -> usize {
 }
 
 fn false_step(random: &mut Random, table: &Table, state: &State, op: u8, item: usize) -> Step {
-    let peer = random.pick((1..=table.n).filter(|k| !table.is_honest(*k))).unwrap_or(1);
+    let peer = random.pick(liars(table).into_iter()).unwrap_or(1);
     let period = random.below(table.periods);
     let (period, board) = match random.pick(state.bag.iter()) {
         Some(Entry::Hash { period, board, .. }) if random.once_in(2) => (*period, bits(board)),
+        _ if random.once_in(5) => (period, random.bits() & all_items(table.m())),
         _ => (period, random.bits() & bits(&state.posted)),
     };
     match op {

@@ -1,0 +1,77 @@
+//! Every kind of rehearsal, and how many of each are made.
+
+use crate::odd::*;
+use crate::random::Random;
+use crate::rehearsed::Rehearsed;
+use crate::runs::*;
+use crate::wide::*;
+use reference::state::BAG_SIZE;
+
+pub struct Kind {
+    /// How many of them a round has.
+    times: usize,
+    pub name: &'static str,
+    /// Makes one, given its number among those of its kind.
+    make: Make,
+    /// Whether a rehearsal is of this kind, as far as its bytes tell.
+    pub fits: fn(&Rehearsed) -> bool,
+}
+
+type Make = fn(&mut Random, usize) -> Vec<u8>;
+
+const fn kind(times: usize, name: &'static str, make: Make, fits: fn(&Rehearsed) -> bool) -> Kind {
+    Kind { times, name, make, fits }
+}
+
+pub static KINDS: [Kind; 26] = [
+    kind(60, "a run", run, |r| r.is(|o| o.answers.len() >= 20)),
+    kind(16, "shuffled steps", shuffled, |r| r.is(|o| o.answers.len() >= 10)),
+    kind(16, "repeated steps", repeated, |r| r.is(|o| o.answers.len() >= 10)),
+    kind(16, "lost steps", lost, |r| r.outcome.is_ok()),
+    kind(14, "periods that go well", good_periods, |r| r.is(went_well)),
+    kind(6, "a full bag", full_bag, |r| r.is(|o| o.state.bag.len() == BAG_SIZE)),
+    kind(12, "a short tail", short_tail, |r| r.is(|o| (r.input.len() - o.end) % 13 > 0)),
+    kind(10, "no items", no_items, |r| r.is(|o| o.table.m() == 0 && o.answers.len() >= 20)),
+    kind(6, "64 items", all_items, |r| r.is(|o| o.table.m() == 64)),
+    kind(8, "one peer", one_peer, |r| r.is(|o| o.table.n == 1)),
+    kind(8, "16 peers", all_peers, |r| r.is(|o| o.table.n == 16)),
+    kind(8, "one period", one_period, |r| r.is(|o| o.table.periods == 1)),
+    kind(8, "8 periods", all_periods, |r| r.is(|o| o.table.periods == 8)),
+    kind(1, "every database full", databases, |r| r.is(|o| filled_sets(o) == 16 * 8 * 64)),
+    kind(1, "receipts and boards", boards, |r| r.is(|o| o.state.boards().len() == BAG_SIZE / 2)),
+    kind(1, "65,535 bytes", long, |r| r.is(|_| r.input.len() == 65_535)),
+    kind(1, "65,536 bytes", longest, |r| r.is(|_| r.input.len() == 65_536)),
+    kind(1, "65,537 bytes", too_long, |r| r.is_refused(15) && has_table(r)),
+    kind(1, "65,537 bytes, no table", long_garbage, |r| r.is_refused(15) && !has_table(r)),
+    kind(32, "a damaged table", damaged, |r| r.outcome.is_err()),
+    kind(15, "garbage", garbage, |r| !r.is(|o| !o.answers.contains(&5))),
+    kind(14, "0 to 6 bytes", few_bytes, |r| r.input.len() <= 6),
+    kind(8, "shorter than the last end", cut, |r| {
+        r.is_refused(2) && ends_so(r, |end| end > r.input.len())
+    }),
+    kind(4, "a last end in the header", end_in_header, |r| {
+        r.is_refused(2) && ends_so(r, |end| end <= 6)
+    }),
+    kind(2, "an end of 65,536", end_of_65536, |r| {
+        r.outcome.is_err() && ends_so(r, |end| end == 65_536)
+    }),
+    kind(6, "a sum that would wrap", wrapped, |r| r.is_refused(2) && wraps(r)),
+];
+
+/// The number of rehearsals in a round.
+pub fn round() -> usize {
+    KINDS.iter().map(|kind| kind.times).sum()
+}
+
+/// A rehearsal of a run, by its number: round after round of all kinds.
+pub fn rehearsal(seed: u64, number: usize) -> (&'static Kind, Vec<u8>) {
+    let (done, mut left) = (number / round(), number % round());
+    for kind in &KINDS {
+        if left < kind.times {
+            let mut random = Random::new(seed, number);
+            return (kind, (kind.make)(&mut random, done * kind.times + left));
+        }
+        left -= kind.times;
+    }
+    unreachable!("what is left is below the sum of all times")
+}

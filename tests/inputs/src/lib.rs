@@ -1,0 +1,24 @@
+//! Random inputs for every engine: tables, steps and whole rehearsals.
+//!
+//! - `random`: a small generator, and the seed of a run
+//! - `tables`: valid tables, and damaged ones
+//! - `steps`: steps of which many are taken
+//! - `making`: a rehearsal in the making, with the reference's state alongside
+//! - `period`: periods that go well, and lies that fill the bag
+//! - `rehearsed`: a rehearsal with what the reference makes of it
+//! - `runs`, `wide`, `odd`: rehearsals in the protocol's shape, those with the
+//!   most to report, and those that are refused
+//! - `kinds`: every kind of rehearsal
+//! - `answers`: which answers the steps got
+
+pub mod answers;
+pub mod kinds;
+pub mod making;
+mod odd;
+pub mod period;
+pub mod random;
+pub mod rehearsed;
+mod runs;
+pub mod steps;
+pub mod tables;
+mod wide;

@@ -1,0 +1,55 @@
+//! A rehearsal in the making, with the reference's state alongside.
+
+use crate::random::Random;
+use crate::steps::random_steps;
+use reference::form::{write_step, Step, STEP_LENGTH};
+use reference::state::State;
+use reference::step::step;
+use reference::table::{read_table, Table};
+
+pub struct Making<'a> {
+    pub random: &'a mut Random,
+    pub text: Vec<u8>,
+    pub table: Table,
+    pub state: State,
+    pub steps: Vec<Vec<u8>>,
+}
+
+impl<'a> Making<'a> {
+    /// No steps yet, on a valid table.
+    pub fn on(random: &'a mut Random, text: Vec<u8>) -> Making<'a> {
+        let table = read_table(&text).expect("a valid table");
+        let state = State::fresh(&table);
+        Making { random, text, table, state, steps: Vec::new() }
+    }
+
+    /// One step more, cut or filled up to 13 bytes.
+    pub fn call(&mut self, mut bytes: Vec<u8>) {
+        bytes.resize(STEP_LENGTH, 0);
+        step(&self.table, &mut self.state, &bytes);
+        self.steps.push(bytes);
+    }
+
+    /// These steps, in any order.
+    pub fn together(&mut self, steps: impl Iterator<Item = Step>) {
+        let mut steps: Vec<Step> = steps.collect();
+        self.random.shuffle(&mut steps);
+        for step in steps {
+            self.call(write_step(step).to_vec());
+        }
+    }
+
+    /// So many random steps more.
+    pub fn wander(&mut self, count: usize) {
+        let end = self.steps.len() + count;
+        while self.steps.len() < end {
+            let room = end - self.steps.len();
+            let steps = random_steps(self.random, &self.table, &self.state);
+            steps.into_iter().take(room).for_each(|step| self.call(step));
+        }
+    }
+
+    pub fn input(self) -> Vec<u8> {
+        [self.text, self.steps.concat()].concat()
+    }
+}

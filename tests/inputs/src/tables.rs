@@ -1,0 +1,150 @@
+//! Random tables: valid ones, and damaged ones.
+
+use crate::random::Random;
+use reference::table::{write_table, LEAST_THRESHOLD};
+
+/// What a table is asked to have.
+pub struct Shape {
+    pub n: usize,
+    pub periods: usize,
+    pub m: usize,
+}
+
+impl Shape {
+    /// With at most so many peers.
+    pub fn random(random: &mut Random, most_peers: usize) -> Shape {
+        let most_items = [3, 6, 12, 64][random.below(4)];
+        Shape {
+            n: random.between(1, most_peers),
+            periods: random.between(1, 8),
+            m: random.between(0, most_items),
+        }
+    }
+
+    /// The bytes of a valid table of this shape.
+    pub fn table(self, random: &mut Random) -> Vec<u8> {
+        let all = u16::MAX >> (16 - self.n);
+        let some = random.bits() as u16;
+        let honest = all & [all, some, some | random.bits() as u16, 0][random.below(31) / 10];
+        let items = random_items(random, self.m);
+        let t = threshold(random, self.n);
+        write_table(self.n as u8, t as u8, honest, self.periods as u8, &items)
+    }
+
+    /// The same, with at least t honest peers, and so many liars if that
+    /// leaves t.
+    pub fn honest_table(self, random: &mut Random, liars: usize) -> Vec<u8> {
+        let t = LEAST_THRESHOLD[self.n - 1];
+        let mut peers: Vec<usize> = (0..self.n).collect();
+        random.shuffle(&mut peers);
+        let honest = peers[liars.min(self.n - t)..].iter().fold(0, |set, k| set | 1 << k);
+        let items = random_items(random, self.m);
+        write_table(self.n as u8, t as u8, honest, self.periods as u8, &items)
+    }
+}
+
+/// The bytes of a valid table with at most so many peers.
+pub fn random_table(random: &mut Random, most_peers: usize) -> Vec<u8> {
+    Shape::random(random, most_peers).table(random)
+}
+
+/// The least threshold, or now and then a higher one.
+fn threshold(random: &mut Random, n: usize) -> usize {
+    let least = LEAST_THRESHOLD[n - 1];
+    if random.once_in(3) {
+        random.between(least, n)
+    } else {
+        least
+    }
+}
+
+/// Different items, of few ballot numbers.
+fn random_items(random: &mut Random, m: usize) -> Vec<Vec<u8>> {
+    let mut items: Vec<Vec<u8>> = Vec::new();
+    while items.len() < m {
+        let mut item = (random.below(1 + m / 3) as u32).to_be_bytes().to_vec();
+        item.push([1, 1, 2, 3][random.below(4)]);
+        if item[4] == 1 {
+            let most = [1, 2, 32][random.below(3)];
+            let length = random.between(1, most);
+            item.extend(random.bytes(length));
+        }
+        if !items.contains(&item) {
+            items.push(item);
+        }
+    }
+    items
+}
+
+/// A valid table, cut, made longer, with a byte changed, an odd item or twins;
+/// or any bytes at all.
+pub fn damaged_table(random: &mut Random) -> Vec<u8> {
+    let mut table = random_table(random, 16);
+    let at = random.below(table.len());
+    let (length, more) = (random.below(60), random.between(1, 4));
+    match random.below(10) {
+        0 => table.truncate(at),
+        1 => table.extend(random.bytes(more)),
+        2 => table = random.bytes(length),
+        3 => table[random.below(6)] = random.below(20) as u8,
+        4 => table[at] = table[at].wrapping_add([1, 255][random.below(2)]),
+        5 => table[at] = random.bits() as u8,
+        6 => copy_item(random, &mut table),
+        7 => move_end(random, &mut table),
+        8 => table = with_odd_item(random),
+        _ => {}
+    }
+    table
+}
+
+/// The place of pair k's offset, and of its length two bytes on.
+pub fn pair_at(k: usize) -> usize {
+    6 + 4 * k
+}
+
+/// A number of two bytes, high byte first.
+pub fn number(table: &[u8], at: usize) -> usize {
+    256 * table[at] as usize + table[at + 1] as usize
+}
+
+/// Writes the bytes of an item over another, as many as there is room for.
+fn copy_item(random: &mut Random, table: &mut [u8]) {
+    let m = table[5] as usize;
+    if m > 0 {
+        let pairs = [random.below(m), random.below(m)].map(pair_at);
+        let [(from, length), (to, room)] =
+            pairs.map(|at| (number(table, at), number(table, at + 2)));
+        table.copy_within(from..from + length.min(room), to);
+    }
+}
+
+/// Moves the end of an item by a byte; the next one, if any, begins there.
+fn move_end(random: &mut Random, table: &mut [u8]) {
+    let m = table[5] as usize;
+    let k = random.below(m);
+    let by = [1, -1][random.below(2)];
+    let mut add = |at: usize, by: i16| {
+        let moved = (number(table, at) as u16).wrapping_add_signed(by);
+        table[at..at + 2].copy_from_slice(&moved.to_be_bytes());
+    };
+    if k < m {
+        add(pair_at(k) + 2, by);
+    }
+    if k + 1 < m {
+        add(pair_at(k + 1), by);
+        add(pair_at(k + 1) + 2, -by);
+    }
+}
+
+/// A table with an item of any length up to 40 and any small kind.
+fn with_odd_item(random: &mut Random) -> Vec<u8> {
+    let m = random.between(1, 8);
+    let mut items = random_items(random, m);
+    let length = [random.below(41), 5, 6, 37, 38][random.below(5)];
+    let mut item = random.bytes(length);
+    if length > 4 {
+        item[4] = random.below(5) as u8;
+    }
+    items[random.below(m)] = item;
+    write_table(3, 3, 7, 2, &items)
+}
