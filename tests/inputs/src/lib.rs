@@ -10,6 +10,7 @@
 //!   most to report, and those that are refused
 //! - `kinds`: every kind of rehearsal
 //! - `answers`: which answers the steps got
+//! - `stored`: the rehearsals that are stored, with their reports
 
 pub mod answers;
 pub mod kinds;
@@ -20,5 +21,6 @@ pub mod random;
 pub mod rehearsed;
 mod runs;
 pub mod steps;
+pub mod stored;
 pub mod tables;
 mod wide;
