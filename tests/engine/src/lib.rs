@@ -21,6 +21,14 @@ mod c {
             step: *const u8,
             step_length: usize,
         ) -> u8;
+        pub fn board_rehearse(
+            input: *const u8,
+            input_length: usize,
+            state: *mut u8,
+            state_length: usize,
+            out: *mut u8,
+            out_length: usize,
+        ) -> usize;
     }
 }
 
@@ -38,4 +46,11 @@ pub fn board_step(table: &[u8], state: &mut [u8], step: &[u8]) -> u8 {
     let (at, length) = (state.as_mut_ptr(), state.len());
     // Each pointer goes with its slice's length.
     unsafe { c::board_step(table.as_ptr(), table.len(), at, length, step.as_ptr(), step.len()) }
+}
+
+pub fn board_rehearse(input: &[u8], state: &mut [u8], out: &mut [u8]) -> usize {
+    let (state, length) = (state.as_mut_ptr(), state.len());
+    let (out, room) = (out.as_mut_ptr(), out.len());
+    // Each pointer goes with its slice's length.
+    unsafe { c::board_rehearse(input.as_ptr(), input.len(), state, length, out, room) }
 }

@@ -1,0 +1,134 @@
+//! Whole rehearsals, new ones in each run: the same report, and the state that
+//! fresh and step lead to.
+
+use engine::layout::{encode, LENGTH};
+use engine::{board_fresh, board_rehearse, board_step};
+use inputs::answers::Answers;
+use inputs::kinds::{rehearsal, round};
+use inputs::random::{run_seed, Random};
+use inputs::rehearsed::Rehearsed;
+use reference::report::rehearse;
+
+/// So many rounds, each of all kinds.
+const ROUNDS: usize = 10;
+
+/// A part of some bytes, lent; what is around it must stay.
+#[derive(Clone, PartialEq)]
+struct Lent(Vec<u8>);
+
+const AROUND: usize = 16;
+
+impl Lent {
+    fn random(random: &mut Random, length: usize) -> Lent {
+        Lent(random.bytes(AROUND + length + AROUND))
+    }
+
+    fn part(&mut self) -> &mut [u8] {
+        let end = self.0.len() - AROUND;
+        &mut self.0[AROUND..end]
+    }
+
+    /// Writes as many of the bytes as there is room for.
+    fn write(&mut self, bytes: &[u8]) {
+        let fits = self.part().len().min(bytes.len());
+        self.part()[..fits].copy_from_slice(&bytes[..fits]);
+    }
+}
+
+/// What the reference has for an input.
+struct Expected {
+    report: Vec<u8>,
+    /// None if the input is refused.
+    state: Option<Vec<u8>>,
+}
+
+/// The first thing that goes wrong in a call with buffers of these lengths.
+fn call(
+    random: &mut Random,
+    input: &[u8],
+    expected: &Expected,
+    state_length: usize,
+    room: usize,
+) -> Result<(), String> {
+    let mut state = Lent::random(random, state_length);
+    let mut out = Lent::random(random, room);
+    let (mut state_after, mut out_after, mut length) = (state.clone(), out.clone(), 0);
+    if state_length == LENGTH {
+        expected.state.iter().for_each(|bytes| state_after.write(bytes));
+        out_after.write(&expected.report);
+        length = expected.report.len();
+    }
+    let answer = board_rehearse(input, state.part(), out.part());
+    let place = |x: &Lent, y: &Lent| (0..x.0.len()).find(|at| x.0[*at] != y.0[*at]);
+    if answer != length {
+        Err(format!("length {answer}, not {length}"))
+    } else if let Some(at) = place(&out, &out_after) {
+        Err(format!("out, of {room} bytes: byte {}", at as isize - AROUND as isize))
+    } else if let Some(at) = place(&state, &state_after) {
+        Err(format!("state, of {state_length} bytes: byte {}", at as isize - AROUND as isize))
+    } else {
+        Ok(())
+    }
+}
+
+/// The state that fresh and a step call for each step lead to.
+fn stepped(rehearsed: &Rehearsed) -> Option<Vec<u8>> {
+    let outcome = rehearsed.outcome.as_ref().ok()?;
+    let (table, mut state) = (&rehearsed.input[..outcome.end], vec![0xA5; LENGTH]);
+    board_fresh(table, &mut state);
+    for (step, _) in rehearsed.calls() {
+        board_step(table, &mut state, step);
+    }
+    Some(state)
+}
+
+/// Calls with a longer out and, now and then, with a shorter one and with a
+/// state of a wrong length.
+fn compare(random: &mut Random, rehearsed: &Rehearsed) -> Result<(), String> {
+    let input = rehearsed.input;
+    let state = rehearsed.outcome.as_ref().ok().map(|outcome| encode(&outcome.state));
+    let expected = Expected { report: rehearse(input), state };
+    let length = expected.report.len();
+    let longer = length + random.below(300);
+    call(random, input, &expected, LENGTH, longer)?;
+    if random.once_in(3) {
+        let shorter = [0, 1, length - 1, random.below(length)][random.below(4)];
+        call(random, input, &expected, LENGTH, shorter)?;
+    }
+    if random.once_in(3) {
+        let wrong = [0, LENGTH - 1, LENGTH + 1][random.below(3)];
+        call(random, input, &expected, wrong, longer)?;
+    }
+    if stepped(rehearsed) != expected.state {
+        return Err("the state differs from that after fresh and each step".to_string());
+    }
+    Ok(())
+}
+
+/// The input's bytes, shortened.
+fn hex(input: &[u8]) -> String {
+    let digits: String = input.iter().take(2_000).map(|byte| format!("{byte:02x}")).collect();
+    if input.len() > 2_000 {
+        digits + "..."
+    } else {
+        digits
+    }
+}
+
+#[test]
+fn same_reports() {
+    let (seed, mut answers) = (run_seed(), Answers::default());
+    for number in 0..ROUNDS * round() {
+        let (kind, input) = rehearsal(seed, number);
+        let rehearsed = Rehearsed::new(&input);
+        assert!((kind.fits)(&rehearsed), "seed {seed}, number {number}: not {}", kind.name);
+        answers.count_all(&rehearsed);
+        if let Err(wrong) = compare(&mut Random::new(!seed, number), &rehearsed) {
+            let (name, length, hex) = (kind.name, input.len(), hex(&input));
+            panic!("seed {seed}, number {number}, {name}: {wrong}\ninput, {length} bytes: {hex}");
+        }
+    }
+    println!("{} rehearsals with {} steps", ROUNDS * round(), answers.calls());
+    println!("{answers}");
+    assert_eq!(answers.wrong(), [""; 0], "seed {seed}");
+}
