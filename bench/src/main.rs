@@ -1,0 +1,110 @@
+//! The proved engine beside a plain one; `bench/run` calls this.
+//!
+//!     bench inputs FOLDER                  writes the inputs
+//!     bench times CASES                    compares the engines, then times them
+//!     bench ops INPUT                      lists the ops that it has
+//!     bench count ENGINE CALL INPUT [OP]   one round, for a tool that counts
+//!
+//! With an op, `count` calls only its steps; CALL is `step`, or `form` for as
+//! many calls without a step.
+
+mod check;
+mod engines;
+mod inputs;
+mod measure;
+mod ops;
+mod plain;
+
+use inputs::{make, SHAPES};
+use std::fs;
+use std::path::Path;
+
+/// More bytes than any report has.
+const OUT: usize = 1 << 18;
+
+/// The table and the steps of an input.
+fn parts(input: &[u8]) -> (&[u8], Vec<&[u8]>) {
+    let (_, end) = reference::table::read_front(input).expect("a valid table");
+    (&input[..end], input[end..].chunks(reference::form::STEP_LENGTH).collect())
+}
+
+fn main() {
+    let args: Vec<String> = std::env::args().skip(1).collect();
+    let args: Vec<&str> = args.iter().map(String::as_str).collect();
+    match args[..] {
+        ["inputs", folder] => write_inputs(Path::new(folder)),
+        ["times", cases] => print_times(Path::new(cases)),
+        ["ops", input] => print_ops(&read(input)),
+        ["count", engine, call, input] => count(engine, call, input, None),
+        ["count", engine, call, input, op] => count(engine, call, input, op.parse().ok()),
+        _ => panic!("see the head of bench/src/main.rs"),
+    }
+}
+
+fn write_inputs(folder: &Path) {
+    for shape in &SHAPES {
+        let (input, _) = make(shape);
+        fs::write(folder.join(shape.name), input).expect("a folder to write to");
+    }
+}
+
+fn read(input: &str) -> Vec<u8> {
+    fs::read(input).expect("an input")
+}
+
+/// Runs one round and prints how many calls it had.
+fn count(engine: &str, call: &str, input: &str, op: Option<u8>) {
+    let engine = engines::by_name(engine).expect("plain, proved or none");
+    let input = read(input);
+    let calls = match op {
+        Some(op) => ops::round(&engine, op, call == "form", &input),
+        None => measure::round(&engine, call, &input),
+    };
+    println!("{calls}");
+}
+
+fn print_times(cases: &Path) {
+    println!("cases: {} reports as stored, from both engines", check::cases(cases));
+    for shape in &SHAPES {
+        let (input, answers) = make(shape);
+        check::input(&input, &answers);
+        println!("\n{}: {} bytes, {} steps", shape.name, input.len(), answers.len());
+        print_mix(&input, &answers);
+        println!("{:24} {:>10} {:>10} {:>7}", "nanoseconds a step", "plain", "proved", "ratio");
+        for call in measure::CALLS {
+            let [plain, proved] = measure::times(call, &input);
+            println!("{call:24} {plain:10.1} {proved:10.1} {:7.2}", proved / plain);
+        }
+    }
+}
+
+/// How many steps of each op there are.
+fn by_op(input: &[u8]) -> [usize; ops::NAMES.len()] {
+    let mut times = [0; ops::NAMES.len()];
+    for given in parts(input).1 {
+        times[given[0] as usize] += 1;
+    }
+    times
+}
+
+fn print_ops(input: &[u8]) {
+    for (op, times) in by_op(input).into_iter().enumerate() {
+        if times > 0 {
+            println!("{op} {} ({times})", ops::NAMES[op]);
+        }
+    }
+}
+
+/// The ops that there are, and the answers that they got.
+fn print_mix(input: &[u8], answers: &[u8]) {
+    let there = by_op(input).into_iter().zip(ops::NAMES).filter(|(times, _)| *times > 0);
+    let named: Vec<String> = there.map(|(times, name)| format!("{name} {times}")).collect();
+    println!("steps: {}", named.join(", "));
+    let times = |answer: u8| answers.iter().filter(|given| **given == answer).count();
+    let refused: Vec<String> = (1..16)
+        .filter(|answer| times(*answer) > 0)
+        .map(|answer| format!("{answer}: {}", times(answer)))
+        .collect();
+    let taken = 100.0 * times(0) as f64 / answers.len() as f64;
+    println!("taken {taken:.1}%; refused with {}", refused.join(", "));
+}

@@ -1,0 +1,53 @@
+//! The 13 bytes of a step.
+
+/// A step's fields; `item` is also the entry number.
+pub struct Fields {
+    pub op: u8,
+    pub peer: u8,
+    pub other: u8,
+    pub period: u8,
+    pub item: u8,
+    pub board: u64,
+}
+
+const PEER: u64 = 0xFF << 8;
+const OTHER: u64 = 0xFF << 16;
+const PERIOD: u64 = 0xFF << 24;
+const ITEM: u64 = 0xFF << 32;
+const SMALL: u64 = PEER | OTHER | PERIOD | ITEM;
+const BOARD: u64 = 0xFF << 40;
+
+/// For each op from 1 on the bytes that it names.
+const NAMED: [u64; 18] = [
+    ITEM,
+    PEER | ITEM,
+    PEER | ITEM,
+    PEER | OTHER | PERIOD | ITEM,
+    PEER | ITEM,
+    PERIOD | ITEM,
+    PEER,
+    PEER | OTHER | PERIOD,
+    PEER | PERIOD,
+    PEER | ITEM,
+    PEER,
+    ITEM,
+    PEER | PERIOD | ITEM,
+    PEER | PERIOD | ITEM,
+    PEER | PERIOD | BOARD,
+    PEER | PERIOD | BOARD,
+    PEER,
+    PEER,
+];
+
+/// The fields, unless the form is wrong (5).
+pub fn read(bytes: &[u8]) -> Option<Fields> {
+    let bytes: &[u8; 13] = bytes.try_into().ok()?;
+    let [op, peer, other, period, item, ..] = *bytes;
+    let named = *NAMED.get(op.wrapping_sub(1) as usize)?;
+    let front = u64::from_le_bytes(bytes[..8].try_into().unwrap());
+    let board = u64::from_be_bytes(bytes[5..].try_into().unwrap());
+    if front & SMALL & !named != 0 || board != 0 && named & BOARD == 0 {
+        return None;
+    }
+    Some(Fields { op, peer, other, period, item, board })
+}
