@@ -16,6 +16,7 @@ mod ops;
 mod plain;
 
 use inputs::{make, SHAPES};
+use measure::{Bench, CALLS};
 use std::fs;
 use std::path::Path;
 
@@ -58,7 +59,7 @@ fn count(engine: &str, call: &str, input: &str, op: Option<u8>) {
     let input = read(input);
     let calls = match op {
         Some(op) => ops::round(&engine, op, call == "form", &input),
-        None => measure::round(&engine, call, &input),
+        None => Bench::over(&input).round(&engine, call),
     };
     println!("{calls}");
 }
@@ -70,9 +71,10 @@ fn print_times(cases: &Path) {
         check::input(&input, &answers);
         println!("\n{}: {} bytes, {} steps", shape.name, input.len(), answers.len());
         print_mix(&input, &answers);
-        println!("{:24} {:>10} {:>10} {:>7}", "nanoseconds a step", "plain", "proved", "ratio");
-        for call in measure::CALLS {
-            let [plain, proved] = measure::times(call, &input);
+        println!("{:24} {:>10} {:>10} {:>7}", "nanoseconds", "plain", "proved", "ratio");
+        let mut bench = Bench::over(&input);
+        for call in CALLS {
+            let [plain, proved] = bench.times(call);
             println!("{call:24} {plain:10.1} {proved:10.1} {:7.2}", proved / plain);
         }
     }

@@ -16,40 +16,55 @@ const ROUNDS: usize = 40;
 /// Fresh calls of a round.
 const FRESH: usize = 500;
 
-/// One round of a call; how many calls (or, of a rehearsal, steps) it had.
-pub fn round(engine: &Engine, call: &str, input: &[u8]) -> usize {
-    let (table, steps) = parts(input);
-    let mut state = vec![0; LENGTH];
-    match call {
-        "rehearse" => {
-            let mut out = vec![0; OUT];
-            black_box((engine.rehearse)(black_box(input), &mut state, &mut out));
-            steps.len()
-        }
-        "step" => {
-            for given in &steps {
-                black_box((engine.step)(black_box(table), &mut state, given));
-            }
-            steps.len()
-        }
-        _ => {
-            for _ in 0..FRESH {
-                black_box((engine.fresh)(black_box(table), &mut state));
-            }
-            FRESH
-        }
-    }
+/// An input with buffers for its calls.
+pub struct Bench<'a> {
+    input: &'a [u8],
+    table: &'a [u8],
+    steps: Vec<&'a [u8]>,
+    state: Vec<u8>,
+    out: Vec<u8>,
 }
 
-/// The best times of the plain and the proved engine, in nanoseconds a call.
-pub fn times(call: &str, input: &[u8]) -> [f64; 2] {
-    let mut best = [f64::MAX; 2];
-    for _ in 0..ROUNDS {
-        for (engine, best) in [PLAIN, PROVED].iter().zip(&mut best) {
-            let start = Instant::now();
-            let calls = round(engine, call, input);
-            *best = best.min(start.elapsed().as_nanos() as f64 / calls as f64);
+impl<'a> Bench<'a> {
+    pub fn over(input: &'a [u8]) -> Bench<'a> {
+        let (table, steps) = parts(input);
+        Bench { input, table, steps, state: vec![0; LENGTH], out: vec![0; OUT] }
+    }
+
+    /// One round of a call; how many calls (or, of a rehearsal, steps) it had.
+    pub fn round(&mut self, engine: &Engine, call: &str) -> usize {
+        match call {
+            "rehearse" => {
+                black_box((engine.rehearse)(self.input, &mut self.state, &mut self.out));
+                self.steps.len()
+            }
+            "step" => {
+                self.state.fill(0);
+                for given in &self.steps {
+                    black_box((engine.step)(self.table, &mut self.state, given));
+                }
+                self.steps.len()
+            }
+            _ => {
+                for _ in 0..FRESH {
+                    black_box((engine.fresh)(self.table, &mut self.state));
+                }
+                FRESH
+            }
         }
     }
-    best
+
+    /// The best times of the plain and the proved engine, in nanoseconds for
+    /// each call or step.
+    pub fn times(&mut self, call: &str) -> [f64; 2] {
+        let mut best = [f64::MAX; 2];
+        for _ in 0..ROUNDS {
+            for (engine, best) in [PLAIN, PROVED].iter().zip(&mut best) {
+                let start = Instant::now();
+                let calls = self.round(engine, call);
+                *best = best.min(start.elapsed().as_nanos() as f64 / calls as f64);
+            }
+        }
+        best
+    }
 }

@@ -3,7 +3,7 @@
 use super::differ::all_differ;
 use super::state::{Entry, Sets, State, BACKING, BOARD, HASH, MOST_ENTRIES};
 use super::table::Table;
-use std::mem::{offset_of, size_of};
+use std::mem::{offset_of, size_of, size_of_val};
 
 pub fn is_state(table: &Table, bytes: &[u8]) -> bool {
     let state = State::of(bytes);
@@ -28,7 +28,7 @@ fn numbers_fit(table: &Table, state: &State) -> bool {
 /// Entries in range, no two the same, and then only 0.
 fn bag_fits(table: &Table, state: &State, bytes: &[u8]) -> bool {
     let entries = state.entries();
-    let end = offset_of!(State, bag) + size_of::<Entry>() * entries.len();
+    let end = offset_of!(State, bag) + size_of_val(entries);
     let hash = |e: usize| {
         let Entry { kind, signer, period, board } = entries[e];
         board ^ u64::from(u32::from_le_bytes([kind, signer, period, 0])) << 40
