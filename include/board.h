@@ -27,8 +27,11 @@ uint8_t board_step(const uint8_t *table, size_t table_length,
                    uint8_t *state, size_t state_length,
                    const uint8_t *step, size_t step_length);
 
+/* No report is longer. */
+#define BOARD_REPORT_MOST 222000
+
 /* Rehearses the input, a table and steps: the report's length in bytes, of
- * which as many as fit are written to out; no report is longer than 300,000.
+ * which as many as fit are written to out.
  * The state then is the one that the steps led to; a refused input, whose
  * report is `refused N`, leaves it as it was. For a state of another length
  * than board_state_length() it answers 0 and writes nothing. */

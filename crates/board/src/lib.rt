@@ -1,6 +1,10 @@
 // The engine for C, whose slices are a pointer and a length: `include/board.h` declares these functions.
+ghost use Prim.Native.Nat.{_≤_};
 ghost use mathlib.Core.Path.{_≡_};
+ghost use lib.ListN.{length};
 ghost use Rattle.state.specs.Layout.{size};
+ghost use Rattle.text.specs.Wrote.{over};
+ghost use Rattle.rehearsal.specs.Rehearsal.{reported, stateLeft, reportMost};
 ghost use Rattle.engine.specs.Engine.{stepAnswer, stepBytes, freshAnswer, freshBytes};
 
 // The length of a state buffer.
@@ -25,4 +29,14 @@ pub extern "C" fn board_step(table: &[u8], state: &mut [u8], step: &[u8]) -> u8
     ensures { λ r. ⌜ (r ≡ stepAnswer (now (table .entry)) (now (state .entry)) (now (step .entry))) × (now (state .exit) ≡ stepBytes (now (table .entry)) (now (state .entry)) (now (step .entry))) ⌝ }
 {
     engine::step(table, state, step)
+}
+
+// Rehearses the input, a table and steps, and answers the report's length; as much of the report as fits is written.
+#[no_mangle]
+pub extern "C" fn board_rehearse(input: &[u8], state: &mut [u8], out: &mut [u8]) -> usize
+    ensures { λ r. ⌜ (r ≡ length (reported (now (input .entry)) (now (state .entry)))) × (r ≤ reportMost) ⌝ }
+    ensures { λ _. ⌜ now (out .exit) ≡ over (now (out .entry)) 0 (reported (now (input .entry)) (now (state .entry))) ⌝ }
+    ensures { λ _. ⌜ now (state .exit) ≡ stateLeft (now (input .entry)) (now (state .entry)) ⌝ }
+{
+    rehearsal::rehearse(input, state, out)
 }

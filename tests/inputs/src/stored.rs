@@ -8,8 +8,8 @@ use reference::report::rehearse;
 const SEED: u64 = 1;
 
 pub struct Files {
-    /// Two bytes, high first, the number of rehearsals; then for each four
-    /// bytes, high first, its length, and its bytes.
+    /// The number of rehearsals; then for each its length, and its bytes. Both
+    /// numbers have four bytes, high byte first.
     pub stdin: Vec<u8>,
     /// The reports, one after the other.
     pub stdout: Vec<u8>,
@@ -22,7 +22,7 @@ pub fn files() -> Result<Files, Vec<String>> {
     if !lacking.is_empty() {
         return Err(lacking);
     }
-    let mut stdin = (inputs.len() as u16).to_be_bytes().to_vec();
+    let mut stdin = (inputs.len() as u32).to_be_bytes().to_vec();
     for input in &inputs {
         stdin.extend((input.len() as u32).to_be_bytes());
         stdin.extend(input);
