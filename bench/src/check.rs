@@ -3,7 +3,7 @@
 use crate::engines::{Engine, PLAIN, PROVED};
 use crate::{parts, OUT};
 use engine::layout::LENGTH;
-use engine::random::Random;
+use inputs::random::Random;
 use std::path::Path;
 
 const ENGINES: [Engine; 2] = [PLAIN, PROVED];
@@ -11,7 +11,7 @@ const ENGINES: [Engine; 2] = [PLAIN, PROVED];
 /// The input's answers, states and report; and calls with a byte changed.
 pub fn input(bytes: &[u8], answers: &[u8]) {
     let (table, steps) = parts(bytes);
-    let mut random = Random::new(1);
+    let mut random = Random::new(1, 0);
     let mut state = vec![0xA5; LENGTH];
     fresh(table, &mut state);
     for (given, answer) in steps.iter().zip(answers) {

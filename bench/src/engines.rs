@@ -16,7 +16,7 @@ pub const PROVED: Engine = Engine {
     name: "proved",
     fresh: engine::board_fresh,
     step: engine::board_step,
-    rehearse: board_rehearse,
+    rehearse: engine::board_rehearse,
 };
 
 /// Its counts are those of the driver alone.
@@ -25,25 +25,4 @@ pub const NONE: Engine =
 
 pub fn by_name(name: &str) -> Option<Engine> {
     [PLAIN, PROVED, NONE].into_iter().find(|engine| engine.name == name)
-}
-
-mod c {
-    extern "C" {
-        pub fn board_rehearse(
-            input: *const u8,
-            input_length: usize,
-            state: *mut u8,
-            state_length: usize,
-            out: *mut u8,
-            out_length: usize,
-        ) -> usize;
-    }
-}
-
-fn board_rehearse(input: &[u8], state: &mut [u8], out: &mut [u8]) -> usize {
-    let (at, length) = (state.as_mut_ptr(), state.len());
-    // Each pointer goes with its slice's length.
-    unsafe {
-        c::board_rehearse(input.as_ptr(), input.len(), at, length, out.as_mut_ptr(), out.len())
-    }
 }

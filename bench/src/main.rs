@@ -10,13 +10,13 @@
 
 mod check;
 mod engines;
-mod inputs;
 mod measure;
 mod ops;
 mod plain;
+mod protocol;
 
-use inputs::{make, SHAPES};
 use measure::{Bench, CALLS};
+use protocol::{make, SHAPES};
 use std::fs;
 use std::path::Path;
 

@@ -2,7 +2,7 @@
 //! and receipted, periods closed and boards published, with some steps given
 //! too early. The reference runs along, to know the bag's entry numbers.
 
-use engine::random::Random;
+use inputs::random::Random;
 use reference::form::{write_step, Step};
 use reference::state::{Entry, State};
 use reference::step::step;
@@ -32,7 +32,7 @@ pub fn make(shape: &Shape) -> (Vec<u8>, Vec<u8>) {
     let bytes = write_table(shape.n, shape.t, shape.honest, shape.periods, &items());
     let table = read_table(&bytes).expect("a valid table");
     let state = State::fresh(&table);
-    let random = Random::new(shape.n as u64);
+    let random = Random::new(shape.n as u64, 0);
     let mut maker = Maker { table, state, random, input: bytes, answers: Vec::new() };
     for period in 0..shape.periods as usize {
         maker.offer_items(period, shape.offers);
@@ -190,6 +190,6 @@ impl Maker {
     /// The board that peer 1 finds.
     fn board(&self, period: usize) -> u64 {
         let board = self.state.peer(1).board(period, self.table.t);
-        engine::layout::bits(&board)
+        reference::form::bits(&board)
     }
 }
