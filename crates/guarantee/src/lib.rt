@@ -1,1 +1,1 @@
-// Demand 3 about the very definitions that the promises of `engine` cite. Nothing runs here.
+// Demand 3 about the very definitions that the promises of `engine` and `rehearsal` cite. Nothing runs here.
