@@ -15,6 +15,7 @@ mod ops;
 mod plain;
 mod protocol;
 
+use inputs::answers::OPS;
 use measure::{Bench, CALLS};
 use protocol::{make, SHAPES};
 use std::fs;
@@ -81,8 +82,8 @@ fn print_times(cases: &Path) {
 }
 
 /// How many steps of each op there are.
-fn by_op(input: &[u8]) -> [usize; ops::NAMES.len()] {
-    let mut times = [0; ops::NAMES.len()];
+fn by_op(input: &[u8]) -> [usize; OPS.len()] {
+    let mut times = [0; OPS.len()];
     for given in parts(input).1 {
         times[given[0] as usize] += 1;
     }
@@ -92,14 +93,14 @@ fn by_op(input: &[u8]) -> [usize; ops::NAMES.len()] {
 fn print_ops(input: &[u8]) {
     for (op, times) in by_op(input).into_iter().enumerate() {
         if times > 0 {
-            println!("{op} {} ({times})", ops::NAMES[op]);
+            println!("{op} {} ({times})", OPS[op]);
         }
     }
 }
 
 /// The ops that there are, and the answers that they got.
 fn print_mix(input: &[u8], answers: &[u8]) {
-    let there = by_op(input).into_iter().zip(ops::NAMES).filter(|(times, _)| *times > 0);
+    let there = by_op(input).into_iter().zip(OPS).filter(|(times, _)| *times > 0);
     let named: Vec<String> = there.map(|(times, name)| format!("{name} {times}")).collect();
     println!("steps: {}", named.join(", "));
     let times = |answer: u8| answers.iter().filter(|given| **given == answer).count();

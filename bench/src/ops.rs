@@ -6,28 +6,6 @@ use crate::plain::Run;
 use engine::layout::LENGTH;
 use std::hint::black_box;
 
-pub const NAMES: [&str; 19] = [
-    "form",
-    "post",
-    "hand",
-    "sign",
-    "take",
-    "share",
-    "receipt",
-    "close",
-    "fetch",
-    "hash",
-    "hear",
-    "back",
-    "publish",
-    "false signature",
-    "false share",
-    "false hash",
-    "false backing",
-    "down",
-    "up",
-];
-
 /// Calls each step of the op, or no step at all (5) if `empty`, on a copy of
 /// the state before it; how many there were.
 pub fn round(engine: &Engine, op: u8, empty: bool, input: &[u8]) -> usize {

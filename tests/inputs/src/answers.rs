@@ -4,7 +4,8 @@ use crate::rehearsed::Rehearsed;
 use reference::form::STEP_LENGTH;
 use std::fmt;
 
-const OPS: [&str; 19] = [
+/// The ops by name; the first is for bytes that are no step.
+pub const OPS: [&str; 19] = [
     "no step",
     "post",
     "hand",
