@@ -5,3 +5,4 @@ pub mod Bytes
 pub mod Bits
 pub mod Sets
 pub mod Weight
+pub mod Marks

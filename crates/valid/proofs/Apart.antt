@@ -1,6 +1,5 @@
 -- No two entries of the bag are the same, tested by marks: an entry whose mark no entry before it has is other than those.
 use Prim.Native.Nat.{ℕ, zero, suc, _+_, _*_, _/_, _%_, _<_}
-use native.Mathlib.Decide.{ℕ-discrete}
 use native.Mathlib.Omega.{arith}
 use mathlib.Core.Bool.{Bool, true, false, _&&_, _||_, not, or-comm}
 use mathlib.Core.List.{List, [], _∷_, _++_}
@@ -9,7 +8,8 @@ use lib.Dec.{eqb}
 use lib.ListN.{length, replicate, length-replicate}
 use borrow.Author.Tests.{eqb-true, not-true}
 use Rattle.base.specs.Below.{any, every}
-use Rattle.base.proofs.Truth.{iff, is-false, split, and-i, and-l, and-r, or-r, eqb-self}
+use Rattle.base.proofs.Truth.{iff, is-false, and-i, and-l, and-r, eqb-self}
+use Rattle.base.proofs.Marks.{marked-none, marked-more, unmarked}
 use Rattle.base.proofs.Below.{any-found, any-ext, every-at, every-ext}
 use Rattle.bits.specs.Row.{bitAt, putBit}
 use Rattle.bits.proofs.Row.{length-put, bitAt-put}
@@ -60,21 +60,21 @@ module _ (s : List ℕ) where
   unfolding newAt
   unseen-new seen e mark r m all q n = sym (ap not (is-false (any e (sameAt s e)) (λ t.
       let found = any-found e (sameAt s e) t in
-      split (all .each (found .0) (found .1)) (ap (bitAt seen) (sym (same-mark e (found .0) (found .2)) ∙ sym m) ∙ sym q ∙ not-true r n))))
+      unmarked (markAt s) (bitAt seen) e mark (all .marked) (sym q ∙ not-true r n) (found .0) (found .1) (m ∙ same-mark e (found .0) (found .2)))))
 
   pub before-new : (e : ℕ) (r : Bool) → r ≡ any e (sameAt s e) → not r ≡ newAt s e
   unfolding newAt
   before-new e r q = ap not q
 
   pub seen-none : Seen s (replicate markBytes 0) 0
-  seen-none = record { long = length-replicate {A = ℕ} markBytes 0; each = λ d l. absurd (omega arith) }
+  seen-none = record { long = length-replicate {A = ℕ} markBytes 0; marked = marked-none (markAt s) _ }
 
   pub seen-more : (seen seen′ : List ℕ) (e mark : ℕ) → mark ≡ markAt s e → Seen s seen e → seen′ ≡ putBit seen mark → Seen s seen′ (e + 1)
-  seen-more seen seen′ e mark m all q = rw q (record { long = length-put seen mark ∙ all .long; each = λ d l. bitAt-put seen mark (markAt s d) (mark-fits seen e e mark m all) ∙ go d l (ℕ-discrete d e) })
-    where
-      go : (d : ℕ) → d < e + 1 → Dec (d ≡ e) → eqb mark (markAt s d) || bitAt seen (markAt s d) ≡ true
-      go d l (yes z) = rw (z, m, eqb-self (markAt s e))
-      go d l (no z) = or-r (eqb mark (markAt s d)) _ (all .each d (omega arith))
+  seen-more seen seen′ e mark m all q =
+      rw q (record {
+        long = length-put seen mark ∙ all .long;
+        marked = marked-more (markAt s) (bitAt seen) _ e mark (all .marked) m (λ x. bitAt-put seen mark x (mark-fits seen e e mark m all));
+      })
 
 -- boards that were loaded, at the head of a row of tests
 

@@ -1,12 +1,13 @@
 -- The three numbers of a peer and the four of an entry, as they stand in the bytes.
-use Prim.Native.Nat.{ℕ, _+_, _*_, _%_, _^_, _<_}
-use mathlib.Core.Bool.{Bool, true, cond, _&&_, _||_, not}
+use Prim.Native.Nat.{ℕ, _+_, _*_, _%_, _^_}
+use mathlib.Core.Bool.{Bool, cond, _&&_, _||_, not}
 use mathlib.Core.List.{List}
 use mathlib.Core.Path.{_≡_}
 use lib.Dec.{eqb, leb, ltb}
 use lib.ListN.{length}
 use Rattle.base.specs.Below.{any}
 use Rattle.base.specs.Bytes.{byteAt, between}
+use Rattle.base.specs.Marks.{Marked}
 use Rattle.bits.specs.Row.{bitAt}
 use Rattle.bits.specs.Number.{num}
 use Rattle.state.specs.Layout.{periods, itemBytes, entryStart, signerIn, periodIn, boardIn, hashKind, backingKind, boardKind}
@@ -68,7 +69,7 @@ module _ (s : List ℕ) where
   -- the row of bits `seen` has the marks of all entries before e
   pub record Seen (seen : List ℕ) (e : ℕ) : Type 0 where
     pub long : length seen ≡ markBytes
-    pub each : (d : ℕ) → d < e → bitAt seen (markAt d) ≡ true
+    pub marked : Marked markAt (bitAt seen) e
 
   -- entries e and d have the same four
   unfoldable pub sameAt : ℕ → ℕ → Bool
