@@ -1,5 +1,6 @@
 pub mod Returns
 pub mod Masks
+pub mod Marked
 pub mod Rows
 pub mod Fields
 pub mod Threshold

@@ -2,13 +2,14 @@
 // An item's text is handed on as the part of the table that it is; nothing is copied, and no byte is changed.
 // It uses the crate base and no other.
 ghost use mathlib.Core.Path.{_≡_};
-ghost use Rattle.ballot.specs.Table.{tablePairsOk, itemText, itemOk, itemsOk, differ, newAt, noTwins, refusal};
+ghost use Rattle.ballot.specs.Table.{tablePairsOk, itemText, itemOk, itemsOk, refusal};
 
 pub mod clash; // when two items clash
 pub mod header; // the fields of the header
 pub mod item; // an item, read from its text
 pub mod pairs; // pairs of offset and length, and the texts that they mark out
 pub mod reader; // a reader that stands over the table's bytes
+mod twins; // whether two items have the same text
 
 // Whether the table's own pairs are right.
 fn table_pairs_ok(table: &[u8]) -> bool
@@ -46,42 +47,6 @@ fn items_ok(table: &[u8]) -> bool
     true
 }
 
-// Whether items i and j have different texts.
-fn differs(table: &[u8], j: u8, i: u8) -> bool
-    ensures { λ r. ⌜ r ≡ differ (now (table .entry)) j i ⌝ }
-{
-    !base::same(item_text(table, i), item_text(table, j))
-}
-
-// Whether no item before item j has its text.
-fn new_at(table: &[u8], j: u8) -> bool
-    ensures { λ r. ⌜ r ≡ newAt (now (table .entry)) j ⌝ }
-{
-    let mut i: u8 = 0;
-    while i < j {
-        if !differs(table, j, i) {
-            return false;
-        }
-        i += 1;
-    }
-    true
-}
-
-// Whether no two items are twins.
-fn no_twins(table: &[u8]) -> bool
-    ensures { λ r. ⌜ r ≡ noTwins (now (table .entry)) ⌝ }
-{
-    let m = header::items(table);
-    let mut j: u8 = 0;
-    while j < m {
-        if !new_at(table, j) {
-            return false;
-        }
-        j += 1;
-    }
-    true
-}
-
 // The first refusal that applies, 1 header, 2 pairs, 3 item or 4 twin; 0 where none does.
 pub fn check_table(table: &[u8]) -> u8
     ensures { λ r. ⌜ r ≡ refusal (now (table .entry)) ⌝ }
@@ -95,7 +60,7 @@ pub fn check_table(table: &[u8]) -> u8
     if !items_ok(table) {
         return 3;
     }
-    if !no_twins(table) {
+    if !twins::no_twins(table) {
         return 4;
     }
     0

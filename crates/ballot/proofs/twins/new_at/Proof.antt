@@ -8,8 +8,8 @@ use Rattle.base.specs.Below.{every}
 use Rattle.base.proofs.Below.{every-none}
 use Rattle.ballot.specs.Table.{differ, newAt}
 use Rattle.ballot.proofs.Returns.{one-fails, one-passes, all-pass}
-use Rattle.ballot.proofs.new_at.Statement.{statement}
-use Rattle.ballot.proofs.new_at.Tie as tie
+use Rattle.ballot.proofs.twins.new_at.Statement.{statement}
+use Rattle.ballot.proofs.twins.new_at.Tie as tie
 
 abbrev Inv-loop : tie.InvT-loop
 Inv-loop table j i₀ i = (i ≤ j) × (every i (differ table j) ≡ true)

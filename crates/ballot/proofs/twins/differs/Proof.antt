@@ -1,8 +1,8 @@
 -- The two texts are those of the items.
 use borrow.Author.Needs.{needs}
 use Rattle.ballot.specs.Table.{differ}
-use Rattle.ballot.proofs.differs.Statement.{statement}
-use Rattle.ballot.proofs.differs.Tie as tie
+use Rattle.ballot.proofs.twins.differs.Statement.{statement}
+use Rattle.ballot.proofs.twins.differs.Tie as tie
 
 item-text-requires : tie.Need-item-text-requires
 item-text-requires c κs = search needs

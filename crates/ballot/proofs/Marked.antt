@@ -1,0 +1,73 @@
+-- Laws of marks: the loop that makes one, and the loop that gathers them while it looks for twins.
+use Prim.Native.Nat.{ℕ, zero, suc, _+_, _<_}
+use native.Mathlib.Decide.{ℕ-discrete}
+use native.Mathlib.Numerals.{add-one}
+use native.Mathlib.Omega.{arith}
+use mathlib.Core.Bool.{true, _||_}
+use mathlib.Core.List.{List}
+use mathlib.Core.Path.{_≡_, refl, sym, ap, _∙_}
+use lib.Dec.{eqb}
+use lib.ListN.{length, set, replicate, length-set, length-replicate}
+use lib.Seq.{getD-set-same, getD-set-other}
+use borrow.Author.Tests.{eq-eqb, ne-eqb}
+use Rattle.base.specs.Bytes.{byteAt}
+use Rattle.base.proofs.Truth.{not-i}
+use Rattle.base.proofs.Below.{every-of}
+use Rattle.base.proofs.Bytes.{eq-of-same}
+use Rattle.base.proofs.Marks.{marked-none, marked-more, unmarked}
+use Rattle.ballot.specs.Table.{itemText, differ, newAt}
+use Rattle.ballot.specs.Marks.{marks, markNext, markTo, markOf, markAt, isIn, Seen}
+
+-- the mark of a text, byte after byte
+
+module _ (text : List ℕ) where
+  pub mark-none : 0 ≡ markTo text 0
+  unfolding markTo
+  mark-none = refl
+
+  pub mark-more : (i : ℕ) {v r : ℕ} → v ≡ markTo text i → r ≡ markNext v (byteAt text i) → r ≡ markTo text (i + 1)
+  unfolding markTo
+  mark-more i v-is r-is = rw (add-one i) (r-is ∙ ap (λ (x : ℕ). markNext x (byteAt text i)) v-is)
+
+  pub mark-end : (i : ℕ) {v : ℕ} → i ≡ length text → v ≡ markTo text i → v ≡ markOf text
+  unfolding markOf
+  mark-end i e v-is = v-is ∙ ap (markTo text) e
+
+  pub mark-lt : (i : ℕ) {v : ℕ} → v ≡ markTo text i → v < marks
+  unfolding markTo
+  mark-lt zero v-is = omega arith
+  mark-lt (suc i) v-is = omega arith
+
+-- the set of bytes: one number more
+in-more : (seen : List ℕ) (m x : ℕ) → m < length seen → isIn (set seen m 1) x ≡ (eqb m x || isIn seen x)
+unfolding isIn
+in-more seen m x l = go (ℕ-discrete x m)
+  where
+    go : Dec (x ≡ m) → eqb (byteAt (set seen m 1) x) 1 ≡ (eqb m x || eqb (byteAt seen x) 1)
+    go (yes e) = rw (e, getD-set-same seen m 1 0 l, eq-eqb m m refl)
+    go (no n) = rw (getD-set-other seen m x 1 0 n, ne-eqb m x (λ e. n (sym e)))
+
+module _ (s : List ℕ) where
+  -- the marks seen: none yet, one more
+
+  pub seen-none : Seen s (replicate marks 0) 0
+  seen-none = record { long = length-replicate {A = ℕ} marks 0; marked = marked-none (markAt s) _ }
+
+  -- there is a place for each mark
+  pub mark-fits : (k : ℕ) {m : ℕ} → m ≡ markAt s k → m < marks
+  unfolding markAt markOf
+  mark-fits k m-is = mark-lt (itemText s k) (length (itemText s k)) m-is
+
+  pub seen-more : (seen : List ℕ) (j : ℕ) {m : ℕ} → Seen s seen j → m ≡ markAt s j → Seen s (set seen m 1) (j + 1)
+  seen-more seen j {m} S m-is =
+      record {
+        long = length-set seen m 1 ∙ S .long;
+        marked = marked-more (markAt s) (isIn seen) _ j m (S .marked) m-is (λ x. in-more seen m x (omega (arith, S .long, mark-fits j m-is)));
+      }
+
+  -- an item whose mark is not seen has a text of its own
+  pub unseen-new : (seen : List ℕ) (j : ℕ) {m b : ℕ} → Seen s seen j → m ≡ markAt s j → b ≡ byteAt seen m → (b ≡ 1 → ⊥) → true ≡ newAt s j
+  unfolding newAt differ isIn markAt
+  unseen-new seen j {m} S m-is b-is out = sym (every-of j (differ s j) (λ i l. not-i _ (λ same.
+      let same-mark = ap markOf (eq-of-same (itemText s i) (itemText s j) same) in
+      unmarked (markAt s) (isIn seen) j m (S .marked) (ne-eqb _ _ (λ e. out (b-is ∙ e))) i l (m-is ∙ sym same-mark))))

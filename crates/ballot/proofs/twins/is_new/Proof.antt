@@ -1,0 +1,20 @@
+-- The same text has the same mark, so an item whose mark was not seen is new.
+use borrow.Author.Needs.{needs}
+use Rattle.ballot.proofs.Marked.{unseen-new}
+use Rattle.ballot.proofs.twins.is_new.Statement.{statement}
+use Rattle.ballot.proofs.twins.is_new.Tie as tie
+
+byte-at-requires : tie.Need-byte-at-requires
+byte-at-requires c κs = search needs
+
+returns : tie.Need-returns
+returns c = search unseen-new
+
+new-at-requires : tie.Need-new-at-requires
+new-at-requires c κs = search needs
+
+returns-2 : tie.Need-returns-2
+returns-2 c = c .new-at .ensures
+
+pub is-new-spec : {M : Type 1} → statement M
+is-new-spec = tie.close (tie.spec byte-at-requires returns new-at-requires returns-2)

@@ -1,0 +1,75 @@
+-- The items are tested one after the other: none of the first j has a twin before it, and their marks are seen.
+use Prim.Native.Nat.{_≤_, _-_}
+use mathlib.Core.Bool.{true}
+use mathlib.Core.Path.{_≡_}
+use native.Mathlib.Omega.{arith}
+use borrow.Author.Needs.{needs}
+use Rattle.base.specs.Below.{every}
+use Rattle.base.proofs.Below.{every-none}
+use Rattle.ballot.specs.Table.{newAt, noTwins}
+use Rattle.ballot.specs.Marks.{Seen}
+use Rattle.ballot.proofs.Returns.{one-fails, one-passes, all-pass}
+use Rattle.ballot.proofs.Marked.{seen-none, seen-more, mark-fits}
+use Rattle.ballot.proofs.twins.no_twins.Statement.{statement}
+use Rattle.ballot.proofs.twins.no_twins.Tie as tie
+
+abbrev Inv-loop : tie.InvT-loop
+Inv-loop table m seen₀ j₀ seen j = (j ≤ m) × Seen table seen j × (every j (newAt table) ≡ true)
+
+abbrev μ-loop : tie.MeasureT-loop
+μ-loop table m seen₀ j₀ seen j = m - j
+
+items-requires : tie.Need-items-requires Inv-loop μ-loop
+items-requires c κs = search needs
+
+loop-holds : tie.Need-loop-holds Inv-loop μ-loop
+loop-holds c = (omega arith, seen-none _, every-none _)
+
+mark-at-requires : tie.Need-mark-at-requires Inv-loop μ-loop
+mark-at-requires c κs = search needs
+
+slice-aggregate-is-new : tie.Need-slice-aggregate-is-new Inv-loop μ-loop
+slice-aggregate-is-new c = search needs
+
+is-new-requires : tie.Need-is-new-requires Inv-loop μ-loop
+is-new-requires c κs = search needs
+
+returns : tie.Need-returns Inv-loop μ-loop
+unfolding noTwins
+returns c =
+    let item = c .before .before .before .before in
+    one-fails _ (item .before .loop .j) _ (omega arith) (c .before .is-new .ensures) (c .if1 .taken)
+
+array-write-seen : tie.Need-array-write-seen Inv-loop μ-loop
+array-write-seen c = search mark-fits
+
+add-j : tie.Need-add-j Inv-loop μ-loop
+add-j c = search needs
+
+loop-less : tie.Need-loop-less Inv-loop μ-loop
+loop-less c = omega arith
+
+loop-again : tie.Need-loop-again Inv-loop μ-loop
+loop-again c = (omega arith, search seen-more, search one-passes)
+
+returns-2 : tie.Need-returns-2 Inv-loop μ-loop
+unfolding noTwins
+returns-2 c = let l = c .before .loop in all-pass _ (l .j) _ (omega arith) (l .inv .2)
+
+pub no-twins-spec : {M : Type 1} → statement M
+no-twins-spec =
+    tie.close
+    (tie.spec
+    Inv-loop
+    μ-loop
+    items-requires
+    loop-holds
+    mark-at-requires
+    slice-aggregate-is-new
+    is-new-requires
+    returns
+    array-write-seen
+    add-j
+    loop-less
+    loop-again
+    returns-2)
