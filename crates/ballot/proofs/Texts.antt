@@ -1,5 +1,6 @@
 -- Laws of the pairs: where each text starts and ends.
-use Prim.Native.Nat.{ℕ, zero, suc, _+_, _-_, _≤_, _<_}
+use Prim.Native.Nat.{ℕ, zero, suc, _+_, _*_, _-_, _≤_, _<_}
+use native.Mathlib.Nat.{add-zero}
 use native.Mathlib.Numerals.{add-one, sub-one}
 use native.Mathlib.Omega.{arith}
 use mathlib.Core.Bool.{Bool, true, false}
@@ -9,11 +10,16 @@ use lib.Dec.{eqb, leb}
 use lib.ListN.{length, drop, length-drop}
 use lib.Seq.{length-take-le}
 use borrow.Author.Tests.{eqb-true, le-leb, lt-leb}
-use Rattle.base.specs.Bytes.{part}
+use Rattle.base.specs.Bytes.{byteAt, numberAt, part}
 use Rattle.base.specs.Below.{every}
 use Rattle.base.proofs.Truth.{and-l, and-r}
 use Rattle.base.proofs.Below.{every-at}
-use Rattle.ballot.specs.Pairs.{offsetOf, sizeOf, firstOffset, endBefore, startsAtEnd, pairsFit, lastEnd, pairsOk, textOf}
+use Rattle.ballot.specs.Pairs.{pairNumber, offsetOf, sizeOf, firstOffset, endBefore, startsAtEnd, pairsFit, lastEnd, pairsOk, textOf}
+
+-- the number of a pair: its two bytes
+pub pair-number : (s : List ℕ) (i : ℕ) {high low : ℕ} → high ≡ byteAt s i → low ≡ byteAt s (i + 1) → high * 256 + low ≡ pairNumber s i
+unfolding numberAt
+pair-number s i p q = rw (add-zero i) (omega arith)
 
 module _ (s : List ℕ) (at m : ℕ) where
   -- where what stands before text k ends, as the machine computes it

@@ -5,11 +5,17 @@ ghost use Rattle.ballot.specs.Pairs.{pairNumber, offsetOf, sizeOf, first
 ghost use Rattle.ballot.specs.Pairs.{pairsFit, lastEnd, pairsOk, textOf};
 
 // The number of a pair that stands at byte i: every offset and length is read through it.
+// Where both bytes are there they are looked for once.
 fn pair_number(s: &[u8], i: usize) -> u16
     requires { ⌜ i ≤ 65536 ⌝ }
     ensures { λ r. ⌜ r ≡ pairNumber (now (s .entry)) i ⌝ }
 {
-    base::number_at(s, i, 2) as u16
+    if s.len() < i + 2 {
+        return base::number_at(s, i, 2) as u16;
+    }
+    let high = base::byte_at(s, i);
+    let low = base::byte_at(s, i + 1);
+    (high as u16) * 256 + (low as u16)
 }
 
 // The offset that pair k gives.
