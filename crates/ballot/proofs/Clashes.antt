@@ -1,11 +1,13 @@
 -- Laws of clashes: they are symmetric, no item clashes with itself, and a mask has them bit by bit.
 use Prim.Native.Nat.{ℕ, _<_, _≤_}
 use native.Mathlib.Omega.{arith}
-use mathlib.Core.Bool.{false}
+use mathlib.Core.Bool.{false, not}
 use mathlib.Core.List.{List}
-use mathlib.Core.Path.{_≡_, refl}
+use mathlib.Core.Path.{_≡_, refl, sym, _∙_}
+use borrow.Author.Tests.{ne-eqb}
 use Rattle.base.specs.Bits.{bit}
-use Rattle.base.proofs.Truth.{eqb-sym}
+use Rattle.base.specs.Bytes.{sameBytes}
+use Rattle.base.proofs.Truth.{eqb-sym, and-false}
 use Rattle.base.proofs.Bytes.{same-self, same-sym}
 use Rattle.base.proofs.Bits.{bit-pack, bit-high, pack-lt}
 use Rattle.ballot.specs.declared.item.Kind.{Kind}
@@ -15,7 +17,8 @@ use Rattle.ballot.specs.declared.item.Reading.the-variants.{Good, Wrong}
 use Rattle.ballot.specs.Header.{itemsOf}
 use Rattle.ballot.specs.Item.{readItem}
 use Rattle.ballot.specs.Table.{itemText}
-use Rattle.ballot.specs.Clash.{kindsClash, readingsClash, clash, clashIn, maskWidth, clashMask}
+use Rattle.ballot.specs.Clash.{kindsClash, readingsClash, clash, clashIn, maskWidth, ballotAt, clashMask}
+use Rattle.ballot.proofs.Readings.{good-says}
 
 -- by what the items are
 
@@ -47,6 +50,19 @@ unfolding clash
 clash-self a = rw (same-self a)
 
 -- by their numbers
+
+-- items of two ballots do not clash
+pub clash-other : (s : List ℕ) (i j : ℕ) {x y : ℕ} → x ≡ ballotAt s i → y ≡ ballotAt s j → (y ≡ x → ⊥) → false ≡ clashIn s i j
+unfolding clashIn clash ballotAt
+clash-other s i j x-is y-is other = rw (go (readItem (itemText s i)) (readItem (itemText s j)) refl refl) (sym (and-false (not (sameBytes (itemText s i) (itemText s j)))))
+  where
+    go : (v w : Reading) → readItem (itemText s i) ≡ v → readItem (itemText s j) ≡ w → readingsClash v w ≡ false
+    go Wrong w p q = refl
+    go (Good a) Wrong p q = refl
+    go (Good a) (Good b) p q =
+        let own = x-is ∙ good-says (itemText s i) a p .ballot in
+        let its = y-is ∙ good-says (itemText s j) b q .ballot in
+        rw (ne-eqb (a .ballot) (b .ballot) (λ e. other (its ∙ sym e ∙ sym own)))
 
 pub clash-in-sym : (s : List ℕ) (i j : ℕ) → clashIn s i j ≡ clashIn s j i
 unfolding clashIn

@@ -13,7 +13,7 @@ use Rattle.ballot.specs.declared.item.Item.{Item}
 use Rattle.ballot.specs.declared.item.Reading.{Reading}
 use Rattle.ballot.specs.declared.item.Reading.the-variants.{Good, Wrong}
 use Rattle.ballot.specs.Header.{itemsOf}
-use Rattle.ballot.specs.Item.{readItem}
+use Rattle.ballot.specs.Item.{ballotOf, readItem}
 use Rattle.ballot.specs.Table.{itemText}
 
 -- the kind is a vote
@@ -57,6 +57,14 @@ maskWidth s = min (itemsOf s) 64
 -- the items that clash with item i, as a number: bit j is item j
 unfoldable pub clashMask : List ℕ → ℕ → ℕ
 clashMask s i = pack (maskWidth s) (clashIn s i)
+
+-- the ballot number of item k
+unfoldable pub ballotAt : List ℕ → ℕ → ℕ
+ballotAt s k = ballotOf (itemText s k)
+
+-- the ballot numbers of a table's items
+pub record BallotsOf (table ballots : List ℕ) : Type 0 where
+  pub ballot : (k : ℕ) → k < maskWidth table → getD ballots k 0 ≡ ballotAt table k
 
 -- the first rows of clashes of a table: row k is the mask of item k
 pub record RowsOf (table rows : List ℕ) : Type 0 where

@@ -35,7 +35,7 @@ const KIND_AT: usize = 4;
 const BODY_AT: usize = 5;
 
 // The ballot number.
-fn ballot(text: &[u8]) -> u32
+pub fn ballot(text: &[u8]) -> u32
     ensures { λ r. ⌜ r ≡ ballotOf (now (text .entry)) ⌝ }
 {
     base::number_at(text, 0, 4) as u32

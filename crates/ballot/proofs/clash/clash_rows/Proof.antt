@@ -1,22 +1,25 @@
 -- The first i rows are made, by `made-more`.
 use Prim.Native.Nat.{_-_}
-use native.Mathlib.Omega.{arith}
 use borrow.Author.Needs.{needs}
-use Rattle.ballot.proofs.Rows.{Made, made-none, made-more, made-all}
+use Rattle.ballot.specs.Clash.{clashMask}
+use Rattle.ballot.proofs.Rows.{Made, made-none, made-more, rows-made}
 use Rattle.ballot.proofs.clash.clash_rows.Statement.{statement}
 use Rattle.ballot.proofs.clash.clash_rows.Tie as tie
 
 abbrev Inv-loop : tie.InvT-loop
-Inv-loop table rows₀ i₀ rows i = Made table rows i
+Inv-loop table ballots rows₀ i₀ rows i = Made (clashMask table) rows i
 
 abbrev μ-loop : tie.MeasureT-loop
-μ-loop table rows₀ i₀ rows i = 64 - i
+μ-loop table ballots rows₀ i₀ rows i = 64 - i
+
+ballots-of-requires : tie.Need-ballots-of-requires Inv-loop μ-loop
+ballots-of-requires c κs = search needs
 
 loop-holds : tie.Need-loop-holds Inv-loop μ-loop
 loop-holds c = made-none _
 
-clash-mask-requires : tie.Need-clash-mask-requires Inv-loop μ-loop
-clash-mask-requires c κs = search needs
+mask-by-requires : tie.Need-mask-by-requires Inv-loop μ-loop
+mask-by-requires c κs = search needs
 
 cast-rows : tie.Need-cast-rows Inv-loop μ-loop
 cast-rows c = search needs
@@ -37,7 +40,7 @@ loop-again : tie.Need-loop-again Inv-loop μ-loop
 loop-again c = search made-more
 
 returns : tie.Need-returns Inv-loop μ-loop
-returns c = search made-all
+returns c = search rows-made
 
 pub clash-rows-spec : {M : Type 1} → statement M
 clash-rows-spec =
@@ -45,8 +48,9 @@ clash-rows-spec =
     (tie.spec
     Inv-loop
     μ-loop
+    ballots-of-requires
     loop-holds
-    clash-mask-requires
+    mask-by-requires
     cast-rows
     mul-rows
     array-write-rows
