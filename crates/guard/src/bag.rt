@@ -9,6 +9,7 @@ use rules::Entry;
 use state::bag::bag_len;
 use state::bag::entry_at;
 use state::bag::is_in;
+use state::layout;
 use state::numbers::open_of;
 
 fn is_hash(x: Entry) -> bool
@@ -76,13 +77,13 @@ pub fn entry_not_closed(s: &[u8], j: u8, e: u8) -> bool
     open_of(s, j) <= period_of(entry_at(s, e as usize))
 }
 
-// The entry is new, and there is no room for it.
+// The entry is new, and there is no room for it. Nothing is looked for while there is room.
 pub fn is_full(s: &[u8], x: Entry) -> bool
     requires { ⌜ Canon (now s) ⌝ }
     ensures { λ r. ⌜ r ≡ isFull x (contents (now (s .entry)) .bag) ⌝ }
 {
-    if is_in(s, x) {
+    if bag_len(s) < layout::ENTRIES {
         return false;
     }
-    256 <= bag_len(s)
+    !is_in(s, x)
 }
