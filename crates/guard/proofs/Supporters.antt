@@ -2,7 +2,7 @@
 use Prim.Native.Nat.{ℕ, zero, suc, _+_, _-_, _^_, _≤_, _<_}
 use native.Mathlib.Numerals.{add-one}
 use native.Mathlib.Omega.{arith}
-use mathlib.Core.Bool.{Bool, true, false, not, _&&_, _||_}
+use mathlib.Core.Bool.{Bool, true, false, cond, not, _&&_, _||_}
 use mathlib.Core.List.{List, [], _∷_}
 use mathlib.Core.Path.{_≡_, refl, sym, ap, subst, _∙_}
 use mathlib.Core.Logic.{_⊎_, inl, inr}
@@ -22,38 +22,37 @@ use Rattle.base.proofs.Weight.{weight-ext}
 use Rattle.bits.proofs.Count.{ones-pack}
 use Rattle.rules.specs.declared.Entry.{Entry}
 use Rattle.rules.specs.declared.Entry.the-variants.{Hash, Backing, Board}
-use Rattle.rules.specs.Bag.{sameEntry, isIn, isHash, entryAt, signerOf, periodOf, boardOf}
+use Rattle.rules.specs.Bag.{sameEntry, isIn, isHash, entryAt, kindOf, signerOf, periodOf, boardOf}
 use Rattle.rules.proofs.Bag.{eq-of-same, same-self}
 use Rattle.state.specs.declared.Fact.the-variants.{Heard}
+use Rattle.state.specs.Layout.{hashKind, backingKind}
 use Rattle.state.specs.Contents.{Contents, contents}
+use Rattle.state.specs.Bag.{signerWith}
 use Rattle.view.specs.declared.Head.{Head}
 use Rattle.view.specs.View.{told}
 use Rattle.valid.specs.Ready.{Ready}
 use Rattle.valid.proofs.Heard.{told-in, number-told}
-use Rattle.guard.specs.Support.{signerIf, hashSigner, backingSigner, heardSigner, backSigner, withPeer, gathered}
+use Rattle.guard.specs.Support.{heardSigner, backSigner, withPeer, gathered}
 use Rattle.guard.proofs.Counts.{among}
 
 -- the signer of an entry, as it is read
 
-pub other-period : (k q C p B : ℕ) → (q ≡ p → ⊥) → 0 ≡ signerIf k q C p B
-unfolding signerIf
-other-period k q C p B d = rw (ne-eqb q p d)
+either-way : (b : Bool) → _≡_ {A = ℕ} 0 (cond b 0 0)
+either-way true = refl
+either-way false = refl
 
-pub other-board : (k q C p B : ℕ) → q ≡ p → (C ≡ B → ⊥) → 0 ≡ signerIf k q C p B
-unfolding signerIf
-other-board k q C p B e d = rw (eq-eqb q p e, ne-eqb C B d)
+module _ (c : Contents) (j p B e k : ℕ) (q : k ≡ signerWith hashKind p B (entryAt (c .bag) e)) where
+  pub heard-none : k ≡ 0 → 0 ≡ heardSigner c j p B e
+  unfolding heardSigner
+  heard-none z = rw (← q, z) (either-way (c .has (Heard j e)))
 
-pub this-board : (k q C p B : ℕ) → q ≡ p → C ≡ B → k ≡ signerIf k q C p B
-unfolding signerIf
-this-board k q C p B e d = rw (eq-eqb q p e, eq-eqb C B d)
+  pub heard-yes : {b : Bool} → b ≡ c .has (Heard j e) → b ≡ true → k ≡ heardSigner c j p B e
+  unfolding heardSigner
+  heard-yes t u = rw (← t, u) q
 
-pub heard-yes : (c : Contents) (j p B e : ℕ) {b : Bool} {x : Entry} {r : ℕ} → b ≡ c .has (Heard j e) → b ≡ true → x ≡ entryAt (c .bag) e → r ≡ hashSigner p B x → r ≡ heardSigner c j p B e
-unfolding heardSigner
-heard-yes c j p B e t u v w = rw (← t, u) (w ∙ ap (hashSigner p B) v)
-
-pub heard-no : (c : Contents) (j p B e : ℕ) {b : Bool} → b ≡ c .has (Heard j e) → b ≡ false → 0 ≡ heardSigner c j p B e
-unfolding heardSigner
-heard-no c j p B e t u = rw (← t, u)
+  pub heard-no : {b : Bool} → b ≡ c .has (Heard j e) → b ≡ false → 0 ≡ heardSigner c j p B e
+  unfolding heardSigner
+  heard-no t u = rw (← t, u)
 
 -- a set with one peer more
 
@@ -103,33 +102,35 @@ gathered-weigh f n m set S l below same e =
 
 -- what an entry whose signer was found is
 
-signer-if : (k q C p B l : ℕ) → 1 ≤ l → signerIf k q C p B ≡ l → (q ≡ p) × (C ≡ B) × (k ≡ l)
-unfolding signerIf
-signer-if k q C p B l a e = go (either (eqb q p && eqb C B))
+signer-of : (x : Entry) (kind p B k : ℕ) → 1 ≤ k → signerWith kind p B x ≡ k → (kindOf x ≡ kind) × (periodOf x ≡ p) × (boardOf x ≡ B) × (signerOf x ≡ k)
+unfolding signerWith
+signer-of x kind p B k a e = go (either test)
   where
-    go : (eqb q p && eqb C B ≡ true) ⊎ (eqb q p && eqb C B ≡ false) → (q ≡ p) × (C ≡ B) × (k ≡ l)
-    go (inl t) = (eqb-true q p (and-l _ _ t), eqb-true C B (and-r (eqb q p) _ t), rw t at e)
-    go (inr t) = let z : 0 ≡ l = rw t at e in absurd (omega arith)
+    test : Bool
+    test = eqb (periodOf x) p && (eqb (kindOf x) kind && eqb (boardOf x) B)
 
-if-signer : (k p B : ℕ) → signerIf k p B p B ≡ k
-unfolding signerIf
-if-signer k p B = rw (eqb-self p, eqb-self B)
+    go : (test ≡ true) ⊎ (test ≡ false) → (kindOf x ≡ kind) × (periodOf x ≡ p) × (boardOf x ≡ B) × (signerOf x ≡ k)
+    go (inl t) =
+        let r = and-r (eqb (periodOf x) p) _ t in
+        (eqb-true (kindOf x) kind (and-l _ _ r), eqb-true (periodOf x) p (and-l _ _ t), eqb-true (boardOf x) B (and-r (eqb (kindOf x) kind) _ r), rw t at e)
+    go (inr t) = let z : 0 ≡ k = rw t at e in absurd (omega arith)
 
-hash-is : (x : Entry) (k p B : ℕ) → 1 ≤ k → hashSigner p B x ≡ k → x ≡ Hash k p B
-unfolding hashSigner
-hash-is (Hash l q C) k p B a e = let s = signer-if l q C p B k a e in λ i. Hash (s .2 i) (s .0 i) (s .1 i)
-hash-is (Backing l q C) k p B a e = absurd (omega arith)
-hash-is (Board q C) k p B a e = absurd (omega arith)
+of-signer : (x : Entry) → signerWith (kindOf x) (periodOf x) (boardOf x) x ≡ signerOf x
+unfolding signerWith
+of-signer x = rw (eqb-self (periodOf x), eqb-self (kindOf x), eqb-self (boardOf x))
 
-backing-is : (x : Entry) (k p B : ℕ) → 1 ≤ k → backingSigner p B x ≡ k → x ≡ Backing k p B
-unfolding backingSigner
-backing-is (Backing l q C) k p B a e = let s = signer-if l q C p B k a e in λ i. Backing (s .2 i) (s .0 i) (s .1 i)
-backing-is (Hash l q C) k p B a e = absurd (omega arith)
-backing-is (Board q C) k p B a e = absurd (omega arith)
+hash-is : (x : Entry) (k p B : ℕ) → 1 ≤ k → signerWith hashKind p B x ≡ k → x ≡ Hash k p B
+hash-is (Hash l q C) k p B a e = let s = signer-of (Hash l q C) hashKind p B k a e in λ i. Hash (s .3 i) (s .1 i) (s .2 i)
+hash-is (Backing l q C) k p B a e = absurd (omega (arith, signer-of (Backing l q C) hashKind p B k a e .0))
+hash-is (Board q C) k p B a e = absurd (omega (arith, signer-of (Board q C) hashKind p B k a e .0))
 
-found-backing : (x : Entry) (k p B : ℕ) → x ≡ Backing k p B → backingSigner p B x ≡ k
-unfolding backingSigner
-found-backing x k p B e = rw e (if-signer k p B)
+backing-is : (x : Entry) (k p B : ℕ) → 1 ≤ k → signerWith backingKind p B x ≡ k → x ≡ Backing k p B
+backing-is (Backing l q C) k p B a e = let s = signer-of (Backing l q C) backingKind p B k a e in λ i. Backing (s .3 i) (s .1 i) (s .2 i)
+backing-is (Hash l q C) k p B a e = absurd (omega (arith, signer-of (Hash l q C) backingKind p B k a e .0))
+backing-is (Board q C) k p B a e = absurd (omega (arith, signer-of (Board q C) backingKind p B k a e .0))
+
+found-backing : (x : Entry) (k p B : ℕ) → x ≡ Backing k p B → signerWith backingKind p B x ≡ k
+found-backing x k p B e = rw e (of-signer (Backing k p B))
 
 -- where the bag has an entry
 
@@ -172,8 +173,8 @@ module _ (c : Contents) (p B k : ℕ) (a : 1 ≤ k) where
       go (inr t) = let z : 0 ≡ k = rw t at q in absurd (omega arith)
 
   found-heard : (j e : ℕ) → c .has (Heard j e) ≡ true → entryAt (c .bag) e ≡ Hash k p B → heardSigner c j p B e ≡ k
-  unfolding heardSigner hashSigner
-  found-heard j e t q = rw (t, q) (if-signer k p B)
+  unfolding heardSigner
+  found-heard j e t q = rw (t, q) (of-signer (Hash k p B))
 
   hearers-same : (j : ℕ) → any (length (c .bag)) (λ e. eqb (heardSigner c j p B e) k) ≡ told (λ e. c .has (Heard j e)) 0 (c .bag) k p B
   hearers-same j = iff _ _ to from
@@ -200,16 +201,16 @@ module _ (c : Contents) (p B k : ℕ) (a : 1 ≤ k) where
   unfolding backSigner
   backers-same = iff _ _ to from
     where
-      to : any (length (c .bag)) (λ e. eqb (backingSigner p B (entryAt (c .bag) e)) k) ≡ true → isIn (Backing k p B) (c .bag) ≡ true
+      to : any (length (c .bag)) (λ e. eqb (signerWith backingKind p B (entryAt (c .bag) e)) k) ≡ true → isIn (Backing k p B) (c .bag) ≡ true
       to t =
-          let f = any-found (length (c .bag)) (λ e. eqb (backingSigner p B (entryAt (c .bag) e)) k) t in
+          let f = any-found (length (c .bag)) (λ e. eqb (signerWith backingKind p B (entryAt (c .bag) e)) k) t in
           let x = entryAt (c .bag) (f .0) in
-          at-in (Backing k p B) (c .bag) (f .0) (f .1) (subst (λ (y : Entry). sameEntry (Backing k p B) y ≡ true) {x = Backing k p B} {y = x} (sym (backing-is x k p B a (eqb-true (backingSigner p B x) k (f .2)))) (same-self (Backing k p B)))
+          at-in (Backing k p B) (c .bag) (f .0) (f .1) (subst (λ (y : Entry). sameEntry (Backing k p B) y ≡ true) {x = Backing k p B} {y = x} (sym (backing-is x k p B a (eqb-true (signerWith backingKind p B x) k (f .2)))) (same-self (Backing k p B)))
 
-      from : isIn (Backing k p B) (c .bag) ≡ true → any (length (c .bag)) (λ e. eqb (backingSigner p B (entryAt (c .bag) e)) k) ≡ true
+      from : isIn (Backing k p B) (c .bag) ≡ true → any (length (c .bag)) (λ e. eqb (signerWith backingKind p B (entryAt (c .bag) e)) k) ≡ true
       from t =
           let f = in-at (Backing k p B) (c .bag) t in
-          any-at (λ e. eqb (backingSigner p B (entryAt (c .bag) e)) k) (f .0) (length (c .bag)) (f .1) (eq-eqb _ k (found-backing (entryAt (c .bag) (f .0)) k p B (sym (eq-of-same (Backing k p B) (entryAt (c .bag) (f .0)) (f .2)))))
+          any-at (λ e. eqb (signerWith backingKind p B (entryAt (c .bag) e)) k) (f .0) (length (c .bag)) (f .1) (eq-eqb _ k (found-backing (entryAt (c .bag) (f .0)) k p B (sym (eq-of-same (Backing k p B) (entryAt (c .bag) (f .0)) (f .2)))))
 
 -- fewer than t, weighed as the rules do
 pub fewer-weighed : (r : Bool) (t w v : ℕ) → r ≡ not (leb t w) → w ≡ v → r ≡ not (leb t v)

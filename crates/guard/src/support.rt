@@ -1,6 +1,7 @@
 // Whether fewer than t peers hashed or backed a board: 12.
 ghost use mathlib.Core.Path.{_≡_};
 ghost use mathlib.Core.Bool.{not};
+ghost use Prim.Native.Nat.{_<_};
 ghost use lib.Dec.{leb};
 ghost use lib.Count.{ones as onesIn};
 ghost use lib.ListN.{length};
@@ -11,66 +12,26 @@ ghost use Rattle.rules.specs.Bag.{isIn};
 ghost use Rattle.state.specs.Contents.{contents, Canon};
 ghost use Rattle.view.specs.View.{stateOf};
 ghost use Rattle.valid.specs.Ready.{Ready};
-ghost use Rattle.guard.specs.Support.{signerIf, hashSigner, backingSigner, heardSigner, backSigner, withPeer, gathered};
-use rules::Entry;
-use state::Fact;
+ghost use Rattle.guard.specs.Support.{heardSigner, backSigner, withPeer, gathered};
 use state::bag::bag_len;
-use state::bag::entry_at;
-use state::facts::is_there;
+use state::bag::signer_at;
+use state::facts::is_heard_by;
+use state::layout;
 use view::Head;
-
-// k if the period q and the board b are those that are sought, else 0.
-fn signer_if(k: u8, q: u8, b: u64, p: u8, board: u64) -> u8
-    ensures { λ r. ⌜ r ≡ signerIf k q b p board ⌝ }
-{
-    if q != p {
-        return 0;
-    }
-    if b != board {
-        return 0;
-    }
-    k
-}
-
-// The signer of a hash of the period and the board; 0 for any other entry.
-fn hash_signer(p: u8, board: u64, x: Entry) -> u8
-    ensures { λ r. ⌜ r ≡ hashSigner p board x ⌝ }
-{
-    match x {
-        Entry::Hash(k, q, b) => signer_if(k, q, b, p, board),
-        Entry::Backing(_, _, _) => 0,
-        Entry::Board(_, _) => 0,
-    }
-}
-
-// The signer of a backing of the period and the board; 0 for any other entry.
-fn backing_signer(p: u8, board: u64, x: Entry) -> u8
-    ensures { λ r. ⌜ r ≡ backingSigner p board x ⌝ }
-{
-    match x {
-        Entry::Hash(_, _, _) => 0,
-        Entry::Backing(k, q, b) => signer_if(k, q, b, p, board),
-        Entry::Board(_, _) => 0,
-    }
-}
 
 // The signer of entry e if it is a hash of the period and the board that peer j heard, else 0.
 fn heard_signer(s: &[u8], j: u8, p: u8, board: u64, e: u8) -> u8
-    requires { ⌜ Canon (now s) ⌝ }
+    requires { ⌜ Canon (now s) × (e < length (contents (now s) .bag)) ⌝ }
     ensures { λ r. ⌜ r ≡ heardSigner (contents (now (s .entry))) j p board e ⌝ }
 {
-    if is_there(s, Fact::Heard(j, e)) {
-        return hash_signer(p, board, entry_at(s, e as usize));
+    let k = signer_at(s, e as usize, layout::HASH, p, board);
+    if k == 0 {
+        return 0;
+    }
+    if is_heard_by(s, j, e) {
+        return k;
     }
     0
-}
-
-// The signer of entry e if it is a backing of the period and the board, else 0.
-fn back_signer(s: &[u8], p: u8, board: u64, e: u8) -> u8
-    requires { ⌜ Canon (now s) ⌝ }
-    ensures { λ r. ⌜ r ≡ backSigner (contents (now (s .entry))) p board e ⌝ }
-{
-    backing_signer(p, board, entry_at(s, e as usize))
 }
 
 // The set of peers with peer k; no peer is 0 or above 16.
@@ -110,7 +71,7 @@ fn backers(s: &[u8], p: u8, board: u64) -> u16
     let mut set: u16 = 0;
     let mut e: usize = 0;
     while e < n {
-        set = with_peer(set, back_signer(s, p, board, e as u8));
+        set = with_peer(set, signer_at(s, e, layout::BACKING, p, board));
         e += 1;
     }
     set

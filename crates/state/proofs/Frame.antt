@@ -3,7 +3,7 @@ use Prim.Native.Nat.{ℕ, _+_, _/_, _<_, _≤_}
 use native.Mathlib.Omega.{arith}
 use mathlib.Core.Bool.{Bool, true, false, _&&_, cond}
 use mathlib.Core.List.{List}
-use mathlib.Core.Path.{_≡_, ap, _∙_}
+use mathlib.Core.Path.{_≡_, sym, ap, _∙_}
 use mathlib.Core.Logic.{_⊎_, inl, inr}
 use lib.ListN.{length}
 use Rattle.base.specs.Bytes.{byteAt}
@@ -37,6 +37,17 @@ place-inside s f a c e p = omega (arith, p, place-lt f (range-within f e), c .lo
 pub has-none : (s : List ℕ) (f : Fact) → inRange f ≡ false → contents s .has f ≡ false
 unfolding contents
 has-none s f e = rw e
+
+-- a fact read at its place, where a test found it in range
+module _ (s : List ℕ) (f : Fact) {b : Bool} (e : b ≡ inRange f) where
+  pub there-inside : (a : ℕ) → Canon s → b ≡ true → a ≡ place f → a / 8 < length s
+  there-inside a c t p = place-inside s f a c (sym e ∙ t) p
+
+  pub there-yes : (a : ℕ) {r : Bool} → b ≡ true → a ≡ place f → r ≡ bitAt s a → r ≡ contents s .has f
+  there-yes a t p r = r ∙ ap (bitAt s) p ∙ has-bit s f (sym e ∙ t)
+
+  pub there-no : b ≡ false → false ≡ contents s .has f
+  there-no t = sym (has-none s f (sym e ∙ t))
 
 pub number-byte : (s : List ℕ) (n : Number) → isPeer (peerOf n) ≡ true → byteAt s (slot n) ≡ contents s .number n
 unfolding contents

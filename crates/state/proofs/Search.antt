@@ -18,7 +18,7 @@ use Rattle.state.specs.Layout.{entries, itemBytes, hashKind, backingKind
 use Rattle.rules.specs.Bag.{kindOf, signerOf, periodOf, boardOf, noEntry, entryAt as nth, sameEntry}
 use Rattle.state.specs.Entries.{entryOf}
 use Rattle.state.specs.Contents.{count, entryAt, contents, Settled, Canon}
-use Rattle.state.specs.Bag.{isWritten}
+use Rattle.state.specs.Bag.{signerWith, writtenSigner, isWritten}
 use Rattle.state.proofs.Tab.{getD-tab-out}
 use Rattle.state.proofs.Append.{bag-length}
 use Rattle.state.proofs.Encode.{entry-nth, entry-period, entry-board}
@@ -109,3 +109,11 @@ entry-is s e x y r c l q h =
 -- the bytes of an entry of the bag are inside
 pub entry-inside : (s : List ℕ) (e : ℕ) → Canon s → e < length (contents s .bag) → entryStart e + entrySize ≤ length s
 entry-inside s e c l = omega (arith, bag-length s, c .counted, c .long)
+
+-- the signer of an entry of the bag is the one in its bytes
+pub signer-is : (s : List ℕ) (e kind p B r : ℕ) → Canon s → e < length (contents s .bag) → r ≡ writtenSigner s (entryStart e) kind p B
+    → r ≡ signerWith kind p B (nth (contents s .bag) e)
+unfolding signerWith writtenSigner
+signer-is s e kind p B r c l h =
+    let m : e < count s = omega (arith, bag-length s) in
+    h ∙ rw (entry-nth s e m, c .settled e m .signer, c .settled e m .kind, ← entry-board s e, ← entry-period s e)

@@ -1,6 +1,6 @@
--- The bytes of an entry: whether they are these, and the bag with an entry more.
+-- The bytes of an entry: whether they are these, whose they are, and the bag with an entry more.
 use Prim.Native.Nat.{ℕ, _+_}
-use mathlib.Core.Bool.{Bool, _&&_}
+use mathlib.Core.Bool.{Bool, _&&_, cond}
 use mathlib.Core.List.{List}
 use lib.Dec.{eqb}
 use lib.ListN.{set}
@@ -10,6 +10,15 @@ use Rattle.rules.specs.declared.Entry.{Entry}
 use Rattle.state.specs.Layout.{itemBytes, countBytes, countAt, signerIn, periodIn, boardIn, entryStart}
 use Rattle.rules.specs.Bag.{kindOf, signerOf, periodOf, boardOf}
 use Rattle.state.specs.Contents.{count}
+
+-- the signer of an entry of this kind, period and board; 0 for any other entry
+unfoldable pub signerWith : ℕ → ℕ → ℕ → Entry → ℕ
+signerWith kind period board x = cond (eqb (periodOf x) period && (eqb (kindOf x) kind && eqb (boardOf x) board)) (signerOf x) 0
+
+-- the same of the bytes from o on
+unfoldable pub writtenSigner : List ℕ → ℕ → ℕ → ℕ → ℕ → ℕ
+writtenSigner s o kind period board =
+    cond (eqb (byteAt s (o + periodIn)) period && (eqb (byteAt s o) kind && eqb (num itemBytes s (o + boardIn)) board)) (byteAt s (o + signerIn)) 0
 
 -- the bytes from o on are those of an entry with these four
 unfoldable pub isWritten : List ℕ → ℕ → ℕ → ℕ → ℕ → ℕ → Bool

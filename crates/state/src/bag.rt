@@ -6,7 +6,7 @@ ghost use Rattle.state.specs.Layout.{entries, entrySize};
 ghost use Rattle.rules.specs.Bag.{entryAt as nth, sameEntry, isIn};
 ghost use Rattle.state.specs.Entries.{entryOf, FieldsFit, EntryFits};
 ghost use Rattle.state.specs.Contents.{contents, Canon, Holds, withEntry};
-ghost use Rattle.state.specs.Bag.{isWritten, written, entered};
+ghost use Rattle.state.specs.Bag.{signerWith, writtenSigner, isWritten, written, entered};
 use crate::layout;
 use rules::Entry;
 
@@ -47,6 +47,31 @@ pub fn entry_at(s: &[u8], e: usize) -> Entry
         s[o + layout::PERIOD_IN],
         board,
     )
+}
+
+// The signer in the bytes from o on if they have this kind, period and board, else 0. Periods differ most often.
+fn written_signer(s: &[u8], o: usize, kind: u8, period: u8, board: u64) -> u8
+    requires { ⌜ o + entrySize ≤ length (now s) ⌝ }
+    ensures { λ r. ⌜ r ≡ writtenSigner (now (s .entry)) o kind period board ⌝ }
+{
+    if s[o + layout::PERIOD_IN] != period {
+        return 0;
+    }
+    if s[o] != kind {
+        return 0;
+    }
+    if bits::load(s, o + layout::BOARD_IN, layout::ITEM_BYTES) != board {
+        return 0;
+    }
+    s[o + layout::SIGNER_IN]
+}
+
+// The signer of entry e if it has this kind, period and board, else 0.
+pub fn signer_at(s: &[u8], e: usize, kind: u8, period: u8, board: u64) -> u8
+    requires { ⌜ Canon (now s) × (e < length (contents (now s) .bag)) ⌝ }
+    ensures { λ r. ⌜ r ≡ signerWith kind period board (nth (contents (now (s .entry)) .bag) e) ⌝ }
+{
+    written_signer(s, layout::BAG + layout::ENTRY_SIZE * e, kind, period, board)
 }
 
 // Whether the bytes from o on are those of an entry. Signers differ most often, then boards.

@@ -1,10 +1,14 @@
 // Facts: whether one is there, and one added.
 ghost use mathlib.Core.Path.{_≡_};
+ghost use Rattle.state.specs.declared.Fact.the-variants.{Heard};
 ghost use Rattle.state.specs.Facts.{Within};
 ghost use Rattle.state.specs.Contents.{contents, Canon, Holds, insert};
 use crate::Fact;
+use crate::layout;
+use crate::place::heard_by;
 use crate::place::place_of;
 use crate::range::in_range;
+use crate::range::is_heard;
 
 // Whether the state has the fact.
 pub fn is_there(s: &[u8], f: Fact) -> bool
@@ -13,6 +17,17 @@ pub fn is_there(s: &[u8], f: Fact) -> bool
 {
     if in_range(f) {
         return bits::has(s, place_of(f));
+    }
+    false
+}
+
+// Whether peer j heard entry e.
+pub fn is_heard_by(s: &[u8], j: u8, e: u8) -> bool
+    requires { ⌜ Canon (now s) ⌝ }
+    ensures { λ r. ⌜ r ≡ contents (now (s .entry)) .has (Heard j e) ⌝ }
+{
+    if is_heard(j, e) {
+        return bits::has(s, 8 * layout::HEARD + heard_by(j, e));
     }
     false
 }

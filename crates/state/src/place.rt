@@ -41,7 +41,7 @@ fn peer_bit(n: usize, k: u8) -> usize
     n * layout::PEERS + wide(k - 1)
 }
 
-fn heard_by(j: u8, e: u8) -> usize
+pub(crate) fn heard_by(j: u8, e: u8) -> usize
     requires { ⌜ Peer j × (e < entries) ⌝ }
     ensures { λ r. ⌜ (r ≡ (j - 1) * entries + e) × (r < peers * entries) ⌝ }
 {

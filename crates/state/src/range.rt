@@ -65,7 +65,7 @@ fn is_known(j: u8, p: u8, i: u8, k: u8) -> bool
     false
 }
 
-fn is_heard(j: u8, e: u8) -> bool
+pub(crate) fn is_heard(j: u8, e: u8) -> bool
     ensures { λ r. ⌜ r ≡ (isPeer j && ltb e entries) ⌝ }
 {
     if is_peer(j) {

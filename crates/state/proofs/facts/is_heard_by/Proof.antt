@@ -1,0 +1,39 @@
+-- By `there-yes` and `there-no`: the bit at the place of `Heard j e`.
+use native.Mathlib.Omega.{arith}
+use mathlib.Core.Path.{sym, _∙_}
+use Rattle.state.specs.declared.Fact.the-variants.{Heard}
+use Rattle.state.proofs.Ranges.{range-within}
+use Rattle.state.proofs.Frame.{there-yes, there-no}
+use borrow.Author.Needs.{needs}
+use Rattle.state.proofs.facts.is_heard_by.Statement.{statement}
+use Rattle.state.proofs.facts.is_heard_by.Tie as tie
+
+is-heard-requires : tie.Need-is-heard-requires
+is-heard-requires c κs = search needs
+
+mul-has : tie.Need-mul-has
+mul-has c = search needs
+
+heard-by-requires : tie.Need-heard-by-requires
+heard-by-requires c κs = let t = c .before in
+    let a = t .before .before .args in
+    range-within (Heard (a .j) (a .e)) (sym (t .is-heard .ensures) ∙ c .if1 .taken)
+
+add-has : tie.Need-add-has
+add-has c = search needs
+
+has-requires : tie.Need-has-requires
+has-requires c κs = search needs
+
+returns : tie.Need-returns
+returns c = let t = c .before .before in
+    let a = t .before .before .before .args in
+    there-yes _ (Heard (a .j) (a .e)) (t .before .is-heard .ensures) _ (t .if1 .taken) (omega (arith, c .before .heard-by .ensures .0)) (c .has .ensures)
+
+returns-2 : tie.Need-returns-2
+returns-2 c = let a = c .before .before .before .args in there-no _ (Heard (a .j) (a .e)) (c .before .is-heard .ensures) (c .if1 .left)
+
+pub is-heard-by-spec : {M : Type 1} → statement M
+is-heard-by-spec =
+    tie.close
+    (tie.spec is-heard-requires mul-has heard-by-requires add-has has-requires returns returns-2)
