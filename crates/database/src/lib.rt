@@ -1,16 +1,17 @@
 // One peer's database: its signer sets by period and item, another's added to them, and the board of a period.
 ghost use mathlib.Core.Path.{_≡_};
 ghost use Prim.Native.Nat.{_+_, _*_, _^_, _<_, _≤_};
+ghost use lib.Count.{ones as onesIn};
+ghost use lib.Dec.{leb};
 ghost use Rattle.base.specs.Bits.{digit};
 ghost use Rattle.state.specs.Layout.{items};
 ghost use Rattle.state.specs.Facts.{Row};
 ghost use Rattle.state.specs.Contents.{contents, Canon, Holds, adding};
 ghost use Rattle.state.specs.Sets.{knownTo};
-ghost use Rattle.database.specs.Database.{rowOf, databaseOf, onRow, fetched, reaches, periodBoard};
+ghost use Rattle.database.specs.Database.{rowOf, databaseOf, onRow, fetched, periodBoard};
 use rules::Signers;
 use state::layout;
 use state::sets::add_signers;
-use state::sets::signer_count;
 use state::sets::signers_of;
 
 // Peer j's signer sets of period p, by item.
@@ -62,12 +63,11 @@ pub fn fetch(s: &mut [u8], j: u8, other: u8, p: u8)
     add_row(s, j, p, sets);
 }
 
-// Whether peer j's database has t signers on item i in period p.
-fn has_signers(s: &[u8], j: u8, p: u8, t: u8, i: u8) -> bool
-    requires { ⌜ Canon (now s) ⌝ }
-    ensures { λ r. ⌜ r ≡ reaches (contents (now (s .entry))) j p t i ⌝ }
+// Whether t peers are in the set.
+fn has_signers(set: Signers, t: u8) -> bool
+    ensures { λ r. ⌜ r ≡ leb t (onesIn (set .0)) ⌝ }
 {
-    t as u32 <= signer_count(s, j, p, i)
+    t as u32 <= u32::count_ones(set.0 as u32)
 }
 
 // A board of items below i, and item i if told so.
@@ -83,10 +83,11 @@ pub fn board_of(s: &[u8], j: u8, p: u8, n: u8, t: u8) -> u64
     requires { ⌜ Canon (now s) × (n ≤ items) ⌝ }
     ensures { λ r. ⌜ r ≡ periodBoard (contents (now (s .entry))) j p n t ⌝ }
 {
+    let sets = row(s, j, p);
     let mut b: u64 = 0;
     let mut i: u8 = 0;
     while i < n {
-        b = with_item(b, i, has_signers(s, j, p, t, i));
+        b = with_item(b, i, has_signers(sets[i as usize], t));
         i += 1;
     }
     b
