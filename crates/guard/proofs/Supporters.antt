@@ -4,7 +4,7 @@ use native.Mathlib.Numerals.{add-one}
 use native.Mathlib.Omega.{arith}
 use mathlib.Core.Bool.{Bool, true, false, cond, not, _&&_, _||_}
 use mathlib.Core.List.{List, [], _∷_}
-use mathlib.Core.Path.{_≡_, refl, sym, ap, subst, _∙_}
+use mathlib.Core.Path.{_≡_, refl, sym, ap, ap₂, subst, _∙_}
 use mathlib.Core.Logic.{_⊎_, inl, inr}
 use lib.Bits.{bitOr, or-lt}
 use lib.Count as machine
@@ -35,25 +35,6 @@ use Rattle.valid.proofs.Heard.{told-in, number-told}
 use Rattle.guard.specs.Support.{heardSigner, backSigner, withPeer, gathered}
 use Rattle.guard.proofs.Counts.{among}
 
--- the signer of an entry, as it is read
-
-either-way : (b : Bool) → _≡_ {A = ℕ} 0 (cond b 0 0)
-either-way true = refl
-either-way false = refl
-
-module _ (c : Contents) (j p B e k : ℕ) (q : k ≡ signerWith hashKind p B (entryAt (c .bag) e)) where
-  pub heard-none : k ≡ 0 → 0 ≡ heardSigner c j p B e
-  unfolding heardSigner
-  heard-none z = rw (← q, z) (either-way (c .has (Heard j e)))
-
-  pub heard-yes : {b : Bool} → b ≡ c .has (Heard j e) → b ≡ true → k ≡ heardSigner c j p B e
-  unfolding heardSigner
-  heard-yes t u = rw (← t, u) q
-
-  pub heard-no : {b : Bool} → b ≡ c .has (Heard j e) → b ≡ false → 0 ≡ heardSigner c j p B e
-  unfolding heardSigner
-  heard-no t u = rw (← t, u)
-
 -- a set with one peer more
 
 or-false : (a b : Bool) → b ≡ false → a || b ≡ a
@@ -80,15 +61,44 @@ peer-more set k l d h =
     same : (i : ℕ) → eqb (k - 1) i ≡ eqb k (i + 1)
     same i = iff _ _ (λ e. eq-eqb k (i + 1) (omega (arith, d, eqb-true (k - 1) i e))) (λ e. eq-eqb (k - 1) i (omega (arith, eqb-true k (i + 1) e)))
 
+-- the signer of an entry, as it is read and added
+
+heard-if : (c : Contents) (j p B e : ℕ) {b : Bool} {k : ℕ} → b ≡ c .has (Heard j e) → k ≡ signerWith hashKind p B (entryAt (c .bag) e) → cond b k 0 ≡ heardSigner c j p B e
+unfolding heardSigner
+heard-if c j p B e t q = ap₂ (λ (b : Bool) (k : ℕ). cond b k 0) t q
+
+either-way : (b : Bool) → _≡_ {A = ℕ} (cond b 0 0) 0
+either-way true = refl
+either-way false = refl
+
+module _ (c : Contents) (j p B e set k : ℕ) (l : set < 2 ^ 16) (q : k ≡ signerWith hashKind p B (entryAt (c .bag) e)) where
+  pub hearer-none : k ≡ 0 → set ≡ withPeer set (heardSigner c j p B e)
+  hearer-none z = peer-none set _ l (sym (heard-if c j p B e refl q) ∙ rw z (either-way (c .has (Heard j e))))
+
+  pub hearer-not : {b : Bool} → b ≡ c .has (Heard j e) → b ≡ false → set ≡ withPeer set (heardSigner c j p B e)
+  hearer-not t u = peer-none set _ l (sym (heard-if c j p B e t q) ∙ rw u)
+
+  pub hearer-more : {b : Bool} {r : ℕ} → b ≡ c .has (Heard j e) → b ≡ true → r ≡ withPeer set k → r ≡ withPeer set (heardSigner c j p B e)
+  hearer-more t u w = w ∙ ap (withPeer set) (rw u at (heard-if c j p B e t q))
+
+module _ (c : Contents) (p B e set k : ℕ) (q : k ≡ signerWith backingKind p B (entryAt (c .bag) e)) where
+  pub backer-none : set < 2 ^ 16 → k ≡ 0 → set ≡ withPeer set (backSigner c p B e)
+  unfolding backSigner
+  backer-none l z = peer-none set _ l (sym q ∙ z)
+
+  pub backer-more : {r : ℕ} → r ≡ withPeer set k → r ≡ withPeer set (backSigner c p B e)
+  unfolding backSigner
+  backer-more w = w ∙ ap (withPeer set) q
+
 -- gathering: none yet, one more, all
 
 pub gather-none : (f : ℕ → ℕ) → 0 ≡ gathered f 0
 unfolding gathered any pack
 gather-none f = refl
 
-pub gather-more : (f : ℕ → ℕ) (e set k r : ℕ) → set ≡ gathered f e → k ≡ f e → r ≡ withPeer set k → r ≡ gathered f (e + 1)
+pub gather-more : (f : ℕ → ℕ) (e set r : ℕ) → set ≡ gathered f e → r ≡ withPeer set (f e) → r ≡ gathered f (e + 1)
 unfolding gathered withPeer any
-gather-more f e set k r s q w = w ∙ pack-ext 16 (λ i. bit set i || eqb k (i + 1)) (λ i. any (e + 1) (λ a. eqb (f a) (i + 1))) (λ i l. rw (s, q, bit-pack 16 (λ i. any e (λ a. eqb (f a) (i + 1))) i l, add-one e))
+gather-more f e set r s w = w ∙ pack-ext 16 (λ i. bit set i || eqb (f e) (i + 1)) (λ i. any (e + 1) (λ a. eqb (f a) (i + 1))) (λ i l. rw (s, bit-pack 16 (λ i. any e (λ a. eqb (f a) (i + 1))) i l, add-one e))
 
 pub gather-end : (f : ℕ → ℕ) (e n set l : ℕ) → e ≤ n → n ≤ e → n ≡ l → set ≡ gathered f e → set ≡ gathered f l
 gather-end f e n set l a b q s = s ∙ ap (gathered f) {x = e} {y = l} (omega arith)

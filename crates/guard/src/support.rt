@@ -9,6 +9,7 @@ ghost use Rattle.base.specs.Weight.{weight, ones};
 ghost use Rattle.ballot.specs.Clash.{clashIn};
 ghost use Rattle.rules.specs.declared.Entry.the-variants.{Backing};
 ghost use Rattle.rules.specs.Bag.{isIn};
+ghost use Rattle.state.specs.Layout.{entries};
 ghost use Rattle.state.specs.Contents.{contents, Canon};
 ghost use Rattle.view.specs.View.{stateOf};
 ghost use Rattle.valid.specs.Ready.{Ready};
@@ -18,21 +19,6 @@ use state::bag::signer_at;
 use state::facts::is_heard_by;
 use state::layout;
 use view::Head;
-
-// The signer of entry e if it is a hash of the period and the board that peer j heard, else 0.
-fn heard_signer(s: &[u8], j: u8, p: u8, board: u64, e: u8) -> u8
-    requires { ⌜ Canon (now s) × (e < length (contents (now s) .bag)) ⌝ }
-    ensures { λ r. ⌜ r ≡ heardSigner (contents (now (s .entry))) j p board e ⌝ }
-{
-    let k = signer_at(s, e as usize, layout::HASH, p, board);
-    if k == 0 {
-        return 0;
-    }
-    if is_heard_by(s, j, e) {
-        return k;
-    }
-    0
-}
 
 // The set of peers with peer k; no peer is 0 or above 16.
 fn with_peer(set: u16, k: u8) -> u16
@@ -47,6 +33,21 @@ fn with_peer(set: u16, k: u8) -> u16
     set | 1 << (k - 1)
 }
 
+// The set with the signer of entry e, if it is a hash of the period and the board that peer j heard.
+fn with_hearer(s: &[u8], j: u8, p: u8, board: u64, set: u16, e: usize) -> u16
+    requires { ⌜ Canon (now s) × (e < length (contents (now s) .bag)) × (e < entries) ⌝ }
+    ensures { λ r. ⌜ r ≡ withPeer set (heardSigner (contents (now (s .entry))) j p board e) ⌝ }
+{
+    let k = signer_at(s, e, layout::HASH, p, board);
+    if k == 0 {
+        return set;
+    }
+    if is_heard_by(s, j, e as u8) {
+        return with_peer(set, k);
+    }
+    set
+}
+
 // The signers of the hashes of the period and the board that peer j heard.
 fn hearers(s: &[u8], j: u8, p: u8, board: u64) -> u16
     requires { ⌜ Canon (now s) ⌝ }
@@ -56,10 +57,22 @@ fn hearers(s: &[u8], j: u8, p: u8, board: u64) -> u16
     let mut set: u16 = 0;
     let mut e: usize = 0;
     while e < n {
-        set = with_peer(set, heard_signer(s, j, p, board, e as u8));
+        set = with_hearer(s, j, p, board, set, e);
         e += 1;
     }
     set
+}
+
+// The set with the signer of entry e, if it is a backing of the period and the board.
+fn with_backer(s: &[u8], p: u8, board: u64, set: u16, e: usize) -> u16
+    requires { ⌜ Canon (now s) × (e < length (contents (now s) .bag)) ⌝ }
+    ensures { λ r. ⌜ r ≡ withPeer set (backSigner (contents (now (s .entry))) p board e) ⌝ }
+{
+    let k = signer_at(s, e, layout::BACKING, p, board);
+    if k == 0 {
+        return set;
+    }
+    with_peer(set, k)
 }
 
 // The signers of the backings of the period and the board.
@@ -71,7 +84,7 @@ fn backers(s: &[u8], p: u8, board: u64) -> u16
     let mut set: u16 = 0;
     let mut e: usize = 0;
     while e < n {
-        set = with_peer(set, signer_at(s, e, layout::BACKING, p, board));
+        set = with_backer(s, p, board, set, e);
         e += 1;
     }
     set

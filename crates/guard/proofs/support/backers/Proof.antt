@@ -21,11 +21,8 @@ bag-len-requires c κs = search needs
 loop-holds : tie.Need-loop-holds Inv-loop μ-loop
 loop-holds c = (omega arith, gather-none _)
 
-signer-at-requires : tie.Need-signer-at-requires Inv-loop μ-loop
-signer-at-requires c κs = search needs
-
-with-peer-requires : tie.Need-with-peer-requires Inv-loop μ-loop
-with-peer-requires c κs = search needs
+with-backer-requires : tie.Need-with-backer-requires Inv-loop μ-loop
+with-backer-requires c κs = search needs
 
 add-e : tie.Need-add-e Inv-loop μ-loop
 add-e c = search needs
@@ -34,8 +31,7 @@ loop-less : tie.Need-loop-less Inv-loop μ-loop
 loop-less c = search needs
 
 loop-again : tie.Need-loop-again Inv-loop μ-loop
-unfolding backSigner
-loop-again c = let l = c .before .before .before .loop .inv in (omega arith, gather-more _ _ _ _ _ (l .1) (c .before .signer-at .ensures) (c .with-peer .ensures))
+loop-again c = (omega arith, gather-more _ _ _ _ (c .before .before .loop .inv .1) (c .with-backer .ensures))
 
 returns : tie.Need-returns Inv-loop μ-loop
 returns c = let l = c .before .loop .inv in gather-end _ _ _ _ _ (l .0) (c .loop-test .left) (c .before .before .bag-len .ensures .0) (l .1)
@@ -48,8 +44,7 @@ backers-spec =
     μ-loop
     bag-len-requires
     loop-holds
-    signer-at-requires
-    with-peer-requires
+    with-backer-requires
     add-e
     loop-less
     loop-again

@@ -21,14 +21,8 @@ bag-len-requires c κs = search needs
 loop-holds : tie.Need-loop-holds Inv-loop μ-loop
 loop-holds c = (omega arith, gather-none _)
 
-cast-heard-signer : tie.Need-cast-heard-signer Inv-loop μ-loop
-cast-heard-signer c = search needs
-
-heard-signer-requires : tie.Need-heard-signer-requires Inv-loop μ-loop
-heard-signer-requires c κs = search needs
-
-with-peer-requires : tie.Need-with-peer-requires Inv-loop μ-loop
-with-peer-requires c κs = search needs
+with-hearer-requires : tie.Need-with-hearer-requires Inv-loop μ-loop
+with-hearer-requires c κs = search needs
 
 add-e : tie.Need-add-e Inv-loop μ-loop
 add-e c = search needs
@@ -37,7 +31,7 @@ loop-less : tie.Need-loop-less Inv-loop μ-loop
 loop-less c = search needs
 
 loop-again : tie.Need-loop-again Inv-loop μ-loop
-loop-again c = (omega arith, gather-more _ _ _ _ _ (c .before .before .before .loop .inv .1) (c .before .heard-signer .ensures) (c .with-peer .ensures))
+loop-again c = (omega arith, gather-more _ _ _ _ (c .before .before .loop .inv .1) (c .with-hearer .ensures))
 
 returns : tie.Need-returns Inv-loop μ-loop
 returns c = let l = c .before .loop .inv in gather-end _ _ _ _ _ (l .0) (c .loop-test .left) (c .before .before .bag-len .ensures .0) (l .1)
@@ -50,9 +44,7 @@ hearers-spec =
     μ-loop
     bag-len-requires
     loop-holds
-    cast-heard-signer
-    heard-signer-requires
-    with-peer-requires
+    with-hearer-requires
     add-e
     loop-less
     loop-again
