@@ -4,15 +4,16 @@ ghost use mathlib.Core.Bool.{not};
 ghost use Rattle.state.specs.declared.Fact.the-variants.{Posted, Signed, Held};
 ghost use Rattle.state.specs.declared.Number.the-variants.{OpenOf};
 ghost use Rattle.state.specs.Contents.{contents, Canon};
-use state::Fact;
-use state::facts::is_there;
+use state::facts::is_held;
+use state::facts::is_posted;
+use state::facts::is_signed;
 use state::numbers::open_of;
 
 pub fn not_posted(s: &[u8], x: u8) -> bool
     requires { ⌜ Canon (now s) ⌝ }
     ensures { λ r. ⌜ r ≡ not (contents (now (s .entry)) .has (Posted x)) ⌝ }
 {
-    !is_there(s, Fact::Posted(x))
+    !is_posted(s, x)
 }
 
 // Peer j does not hold item x in its open period.
@@ -20,12 +21,12 @@ pub fn not_held(s: &[u8], j: u8, x: u8) -> bool
     requires { ⌜ Canon (now s) ⌝ }
     ensures { λ r. ⌜ r ≡ not (contents (now (s .entry)) .has (Held j (contents (now (s .entry)) .number (OpenOf j)) x)) ⌝ }
 {
-    !is_there(s, Fact::Held(j, open_of(s, j), x))
+    !is_held(s, j, open_of(s, j), x)
 }
 
 pub fn not_signed(s: &[u8], k: u8, p: u8, x: u8) -> bool
     requires { ⌜ Canon (now s) ⌝ }
     ensures { λ r. ⌜ r ≡ not (contents (now (s .entry)) .has (Signed k p x)) ⌝ }
 {
-    !is_there(s, Fact::Signed(k, p, x))
+    !is_signed(s, k, p, x)
 }

@@ -34,7 +34,7 @@ pub(crate) fn spot_of(j: u8, p: u8, i: u8) -> usize
 }
 
 // A peer's bit in a set of peers, of which n stand before.
-fn peer_bit(n: usize, k: u8) -> usize
+pub(crate) fn peer_bit(n: usize, k: u8) -> usize
     requires { ⌜ (n < peers * (periods * items)) × Peer k ⌝ }
     ensures { λ r. ⌜ (r ≡ n * peers + (k - 1)) × (r < peers * (periods * items) * peers) ⌝ }
 {

@@ -1,0 +1,37 @@
+-- By `there-yes` and `there-no`: the bit at the place of `Held j p i`.
+use native.Mathlib.Omega.{arith}
+use mathlib.Core.Path.{sym, _∙_}
+use Rattle.state.specs.declared.Fact.the-variants.{Held}
+use Rattle.state.proofs.Ranges.{spot-within}
+use Rattle.state.proofs.Frame.{there-yes, there-no}
+use borrow.Author.Needs.{needs}
+use Rattle.state.proofs.facts.is_held.Statement.{statement}
+use Rattle.state.proofs.facts.is_held.Tie as tie
+
+is-spot-requires : tie.Need-is-spot-requires
+is-spot-requires c κs = search needs
+
+mul-has : tie.Need-mul-has
+mul-has c = search needs
+
+spot-of-requires : tie.Need-spot-of-requires
+spot-of-requires c κs = spot-within _ _ _ (sym (c .before .is-spot .ensures) ∙ c .if1 .taken)
+
+add-has : tie.Need-add-has
+add-has c = search needs
+
+has-requires : tie.Need-has-requires
+has-requires c κs = search needs
+
+returns : tie.Need-returns
+returns c = let t = c .before .before in
+    let a = t .before .before .before .args in
+    there-yes _ (Held (a .j) (a .p) (a .i)) (t .before .is-spot .ensures) _ (t .if1 .taken) (omega (arith, c .before .spot-of .ensures .0)) (c .has .ensures)
+
+returns-2 : tie.Need-returns-2
+returns-2 c = let a = c .before .before .before .args in there-no _ (Held (a .j) (a .p) (a .i)) (c .before .is-spot .ensures) (c .if1 .left)
+
+pub is-held-spec : {M : Type 1} → statement M
+is-held-spec =
+    tie.close
+    (tie.spec is-spot-requires mul-has spot-of-requires add-has has-requires returns returns-2)

@@ -1,0 +1,53 @@
+-- By `there-yes` and `there-no`: the bit at the place of `Signed k p i`.
+use native.Mathlib.Omega.{arith}
+use mathlib.Core.Path.{sym, _∙_}
+use Rattle.state.specs.declared.Fact.the-variants.{Signed}
+use Rattle.state.proofs.Ranges.{spot-within}
+use Rattle.state.proofs.Frame.{there-yes, there-no}
+use borrow.Author.Needs.{needs}
+use Rattle.state.proofs.facts.is_signed.Statement.{statement}
+use Rattle.state.proofs.facts.is_signed.Tie as tie
+
+is-spot-requires : tie.Need-is-spot-requires
+is-spot-requires c κs = search needs
+
+mul-has : tie.Need-mul-has
+mul-has c = search needs
+
+cell-of-requires : tie.Need-cell-of-requires
+cell-of-requires c κs = let t = c .before in
+    let a = t .before .before .args in
+    spot-within (a .k) (a .p) (a .i) (sym (t .is-spot .ensures) ∙ c .if1 .taken) .1
+
+peer-bit-requires : tie.Need-peer-bit-requires
+peer-bit-requires c κs = let t = c .before in
+    let a = t .before .before .before .args in
+    (omega (arith, c .cell-of .ensures), spot-within (a .k) (a .p) (a .i) (sym (t .before .is-spot .ensures) ∙ t .if1 .taken) .0)
+
+add-has : tie.Need-add-has
+add-has c = search needs
+
+has-requires : tie.Need-has-requires
+has-requires c κs = search needs
+
+returns : tie.Need-returns
+returns c = let b = c .before in
+    let t = b .before .before in
+    let a = t .before .before .before .args in
+    there-yes _ (Signed (a .k) (a .p) (a .i)) (t .before .is-spot .ensures) _ (t .if1 .taken) (omega (arith, b .peer-bit .ensures .0, b .before .cell-of .ensures .0)) (c .has .ensures)
+
+returns-2 : tie.Need-returns-2
+returns-2 c = let a = c .before .before .before .args in there-no _ (Signed (a .k) (a .p) (a .i)) (c .before .is-spot .ensures) (c .if1 .left)
+
+pub is-signed-spec : {M : Type 1} → statement M
+is-signed-spec =
+    tie.close
+    (tie.spec
+    is-spot-requires
+    mul-has
+    cell-of-requires
+    peer-bit-requires
+    add-has
+    has-requires
+    returns
+    returns-2)
