@@ -6,7 +6,7 @@ use std::path::Path;
 
 #[test]
 fn as_stored() {
-    let folder = Path::new(env!("CARGO_MANIFEST_DIR")).join("../../crates/rehearsals");
+    let folder = Path::new(env!("CARGO_MANIFEST_DIR")).join("../../crates/stored");
     let made = files().unwrap_or_else(|lacking| panic!("{}", lacking.join("\n")));
     for (name, bytes) in [("stdin", made.stdin), ("stdout", made.stdout)] {
         let stored = fs::read(folder.join(name)).expect("a stored file");

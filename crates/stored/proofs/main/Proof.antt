@@ -1,8 +1,8 @@
 -- One rehearsal after the other.
 use Prim.Native.Nat.{_≤_, _-_}
 use borrow.Author.Needs.{needs}
-use Rattle.rehearsals.proofs.main.Statement.{statement}
-use Rattle.rehearsals.proofs.main.Tie as tie
+use Rattle.stored.proofs.main.Statement.{statement}
+use Rattle.stored.proofs.main.Tie as tie
 
 abbrev Inv-loop : tie.InvT-loop
 Inv-loop n k₀ k = k ≤ n

@@ -3,8 +3,8 @@ use native.Mathlib.Omega.{arith}
 use mathlib.Core.Path.{sym}
 use lib.Seq.{length-take-le}
 use borrow.Author.Needs.{needs}
-use Rattle.rehearsals.proofs.rehearse.Statement.{statement}
-use Rattle.rehearsals.proofs.rehearse.Tie as tie
+use Rattle.stored.proofs.rehearse.Statement.{statement}
+use Rattle.stored.proofs.rehearse.Tie as tie
 
 slice-aggregate-read-next : tie.Need-slice-aggregate-read-next
 slice-aggregate-read-next c = search needs

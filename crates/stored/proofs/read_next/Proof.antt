@@ -1,10 +1,10 @@
 -- What was read counts bytes of the part that was lent, and so of the whole.
 use mathlib.Core.Path.{sym}
 use lib.Seq.{length-take-le}
-use Rattle.rehearsals.proofs.Parts.{counts-whole}
+use Rattle.stored.proofs.Parts.{counts-whole}
 use borrow.Author.Needs.{needs}
-use Rattle.rehearsals.proofs.read_next.Statement.{statement}
-use Rattle.rehearsals.proofs.read_next.Tie as tie
+use Rattle.stored.proofs.read_next.Statement.{statement}
+use Rattle.stored.proofs.read_next.Tie as tie
 
 read-full-requires : tie.Need-read-full-requires
 read-full-requires c κs = search needs
