@@ -1,5 +1,6 @@
 // The inner step: on a state that is ready, a step's answer and effect, in place. Nothing is copied and nothing re-validated.
 // Rows of clashes may be handed in, made once for many steps; where there is no row of an item, its row is made anew.
+// It uses judge to decide, and counters, database and state to change.
 ghost use mathlib.Core.Path.{_≡_};
 ghost use Rattle.ballot.specs.Header.{itemsOf};
 ghost use Rattle.ballot.specs.Clash.{clashIn, RowsOf};

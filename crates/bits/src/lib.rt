@@ -1,4 +1,5 @@
 // A slice of bytes as a row of bits, and as numbers of several bytes, low byte first.
+// It uses base's laws of bits, and no other crate.
 ghost use mathlib.Core.Path.{_≡_};
 ghost use Prim.Native.Nat.{_+_, _/_, _^_, _<_, _≤_};
 ghost use lib.ListN.{length};

@@ -1,4 +1,5 @@
 // The engine for C, whose slices are a pointer and a length: `include/board.h` declares these functions.
+// It uses engine and rehearsal, and adds nothing to what they promise.
 ghost use Prim.Native.Nat.{_≤_};
 ghost use mathlib.Core.Path.{_≡_};
 ghost use lib.ListN.{length};

@@ -1,4 +1,5 @@
 // One peer's database: its signer sets by period and item, another's added to them, and the board of a period.
+// It uses state to read and to add; it knows no table and no step.
 ghost use mathlib.Core.Path.{_≡_};
 ghost use Prim.Native.Nat.{_+_, _*_, _^_, _<_, _≤_};
 ghost use lib.Count.{ones as onesIn};

@@ -1,4 +1,5 @@
 // The engine: fresh and step, for any bytes. The table and the state are validated once for each call; the inner step re-validates nothing.
+// It uses ballot to judge the table, valid to judge the state, and advance for the step.
 ghost use mathlib.Core.Path.{_≡_};
 ghost use lib.ListN.{length, replicate};
 ghost use Rattle.ballot.specs.Clash.{clashIn};

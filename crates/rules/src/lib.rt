@@ -1,5 +1,6 @@
 // The vocabulary of the rules: entries of the bag, steps, and sets of peers.
 // Peers count from 1; periods, items and entries from 0. A board is a number whose bit i is item i.
+// It uses base. Of bytes it knows only the 13 of a step: no table, no state.
 ghost use mathlib.Core.Path.{_≡_};
 ghost use Rattle.rules.specs.Form.{allZero, formed, select, laterOps, ops, read};
 

@@ -1,5 +1,6 @@
 // The bytes of the engine's state: at which byte what stands, what the bytes say, and how they change.
 // Everything above this crate sees what the bytes say, `contents`, and no byte.
+// It uses bits to read and to write, and the vocabulary of rules.
 pub mod bag;
 pub mod facts;
 pub mod layout;

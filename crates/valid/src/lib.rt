@@ -1,4 +1,5 @@
 // Row 14 of the numbers on the report: whether a lent buffer is a state of the table. A state need not be one that steps lead to.
+// It uses state's layout, and view for what a good state is. It is the one crate above state that reads bytes by their places.
 ghost use mathlib.Core.Path.{_≡_};
 ghost use Rattle.valid.specs.StateOk.{stateOk};
 ghost use Rattle.valid.specs.Ready.{Room};

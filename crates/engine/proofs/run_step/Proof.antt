@@ -12,7 +12,8 @@ enum-known-st c = search needs
 
 advance-requires : tie.Need-advance-requires
 advance-requires c κs =
-    let given = c .before .before .before .before .before .before .before .before .before .pre in
+    let reading = c .before .before .before .before in
+    let given = reading .before .before .before .before .before .pre in
     (given .1, items-read (given .0), given .0 .clashes)
 
 enum-told : tie.Need-enum-told

@@ -24,7 +24,8 @@ slice-aggregate-run c = search needs
 
 run-requires : tie.Need-run-requires
 run-requires c κs =
-    let clear = c .before .before .before .before .before .before .before .before .before .before in
+    let first = c .before .before .before .before .before in
+    let clear = first .before .before .before .before .before in
     let rows = clear .before .before in
     let head = rows .before in
     let given = head .before .before .before .before .before .pre in
@@ -33,7 +34,8 @@ run-requires c κs =
 put-state-requires : tie.Need-put-state-requires
 put-state-requires c κs =
     let steps = c .before .before .before .before .before .before in
-    let rows = steps .before .before .before .before .before .before .before .before .before .before .before .before .before in
+    let first = steps .before .before .before .before .before .before in
+    let rows = first .before .before .before .before .before .before .before in
     let head = rows .before in
     let given = head .before .before .before .before .before .pre in
     showable (given .0) (given .1) (head .head-of .ensures) (rows .clash-rows .ensures) (steps .run .ensures)

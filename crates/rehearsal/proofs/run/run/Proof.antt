@@ -41,7 +41,8 @@ loop-again c =
 
 same-length : tie.Need-same-length Inv-loop μ-loop
 same-length c =
-    let given = c .before .before .before .before .before .before .before .before .before .pre in
+    let counted = c .before .before in
+    let given = counted .before .before .before .before .before .before .before .pre in
     same-long _ (given .0 .taken) _ _ (c .before .loop .inv .1 .state) (given .1)
 
 same-length-2 : tie.Need-same-length-2 Inv-loop μ-loop
