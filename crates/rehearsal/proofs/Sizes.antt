@@ -9,12 +9,11 @@ use lib.Dec.{eqb}
 use lib.ListN.{length, length-append}
 use borrow.Author.Tests.{eqb-true}
 use Rattle.base.specs.Refusals.{Refusals, first}
-use Rattle.base.specs.Weight.{ones, all}
 use Rattle.base.proofs.Truth.{either}
-use Rattle.base.proofs.Weight.{weight-mono, count-all}
-use Rattle.ballot.specs.Header.{peersOf, thresholdOf, isHonest, honestCount}
+use Rattle.ballot.specs.Header.{peersOf, thresholdOf, honestCount}
 use Rattle.ballot.specs.Clash.{clashIn}
 use Rattle.ballot.specs.Table.{tableRefusals}
+use Rattle.ballot.proofs.Fields.{honest-most}
 use Rattle.ballot.proofs.Sound.{sound}
 use Rattle.rules.specs.declared.Step.{Step}
 use Rattle.rules.specs.declared.Step.the-variants.{Post, Hand, Sign, Take, Share, Receipt, Close, Fetch, SendHash, Hear, Back, Publish, FalseSignature, FalseShare, FalseHash, FalseBacking, Down, Up}
@@ -106,7 +105,7 @@ module _ (input : List ℕ) (T : Taken input) where
   first-line-most =
       let S = sound table (T .table) in
       head-most (peersOf table) (thresholdOf table) (honestCount table) (omega (arith, S .peers-most)) (omega (arith, S .peers-most, S .threshold-most))
-      (omega (arith, S .peers-most, weight-mono ones (peersOf table) (isHonest table) all (λ k q. refl), count-all (peersOf table)))
+      (omega (arith, S .peers-most, honest-most table))
 
   report-most : length (reportOf input) ≤ reportMost
   unfolding reportOf

@@ -2,11 +2,10 @@
 ghost use mathlib.Core.Path.{_≡_};
 ghost use Prim.Native.Nat.{_≤_};
 ghost use lib.ListN.{length};
-ghost use Rattle.rehearsal.specs.Input.{tableEnd, tableIn, tableThere, inputRefusal, stepCount, callAt};
+ghost use Rattle.rehearsal.specs.Input.{inputMost, tableEnd, tableIn, tableThere, inputRefusal, stepCount, callAt};
+use crate::INPUT_MOST;
 use ballot::header;
 use ballot::pairs;
-
-const INPUT_MOST: usize = 65536;
 
 const STEP_SIZE: usize = 13;
 
@@ -53,7 +52,7 @@ pub fn check_input(input: &[u8]) -> u8
 // How many steps there are: a short tail is one.
 pub fn step_count(input: &[u8]) -> usize
     requires { ⌜ tableEnd (now input) ≤ length (now input) ⌝ }
-    requires { ⌜ length (now input) ≤ 65536 ⌝ }
+    requires { ⌜ length (now input) ≤ inputMost ⌝ }
     ensures { λ r. ⌜ r ≡ stepCount (now (input .entry)) ⌝ }
 {
     (input.len() - table_end(input) + 12) / STEP_SIZE
@@ -61,7 +60,7 @@ pub fn step_count(input: &[u8]) -> usize
 
 // The bytes of step k, counted from 0, of an input whose table ends at `start`.
 pub fn call_at(input: &[u8], start: usize, k: usize) -> &[u8]
-    requires { ⌜ (start ≡ tableEnd (now input)) × (start ≤ 65536) × (k ≤ 65536) ⌝ }
+    requires { ⌜ (start ≡ tableEnd (now input)) × (start ≤ inputMost) × (k ≤ inputMost) ⌝ }
     ensures { λ r. ⌜ now r ≡ callAt (now (input .entry)) k ⌝ }
 {
     base::part_of(input, start + STEP_SIZE * k, STEP_SIZE)

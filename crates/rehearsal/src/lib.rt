@@ -9,6 +9,12 @@ ghost use Rattle.rehearsal.specs.Rehearsal.{reported, stateLeft, reportM
 use report::lines::put_refused;
 use state::layout::SIZE;
 
+// The most bytes of an input that is judged.
+pub const INPUT_MOST: usize = 65536;
+
+// No report is longer.
+pub const REPORT_MOST: usize = 222000;
+
 mod input; // where the table ends, what is refused, and the steps
 mod run; // the steps, and the report around them
 

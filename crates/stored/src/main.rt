@@ -1,6 +1,9 @@
 // Runs stored rehearsals one after the other and writes their reports, which are compared with those of an independent engine.
 // Standard input has their number, then for each its length and its bytes; a number has four bytes, high byte first.
 ghost use Rattle.io.specs.Counts.{Counts};
+use rehearsal::INPUT_MOST;
+use rehearsal::REPORT_MOST;
+use state::layout::SIZE;
 
 // The next number.
 fn next() -> usize {
@@ -21,10 +24,10 @@ fn read_next(input: &mut [u8], size: usize) -> usize
 
 // Reads a rehearsal of so many bytes and writes its report.
 fn rehearse(size: usize) {
-    let mut input = [0u8; 65537];
+    let mut input = [0u8; INPUT_MOST + 1];
     let got = read_next(&mut input, size);
-    let mut state = [0u8; 22906];
-    let mut out = [0u8; 222000];
+    let mut state = [0u8; SIZE];
+    let mut out = [0u8; REPORT_MOST];
     let length = rehearsal::rehearse(&input[..got], &mut state, &mut out);
     io::write_all(libc::STDOUT_FILENO, &out[..length]);
 }
