@@ -22,7 +22,7 @@ use Rattle.state.specs.Contents.{contents, Holds, withEntry}
 use Rattle.view.specs.Effect.{enterOn}
 use Rattle.view.specs.declared.Head.{Head}
 use Rattle.view.specs.View.{tableOf, stateOf}
-use Rattle.valid.specs.Ready.{Room, Ready}
+use Rattle.view.specs.Ready.{Room, Ready}
 
 -- names of the table are names of the layout
 

@@ -3,7 +3,7 @@ ghost use mathlib.Core.Path.{_≡_};
 ghost use Rattle.ballot.specs.Header.{itemsOf};
 ghost use Rattle.ballot.specs.Clash.{clashIn, clashMask};
 ghost use Rattle.rules.specs.declared.Step.the-variants.{Post, Hand, Sign, Take, Share, Receipt};
-ghost use Rattle.valid.specs.Ready.{Ready};
+ghost use Rattle.view.specs.Ready.{Ready};
 ghost use Rattle.advance.specs.Stepped.{Stepped};
 use state::Fact;
 use state::facts::add_fact;

@@ -2,7 +2,7 @@
 ghost use mathlib.Core.Path.{_≡_};
 ghost use Rattle.ballot.specs.Clash.{clashIn};
 ghost use Rattle.rules.specs.declared.Step.the-variants.{Close, Fetch, SendHash, Hear, Back, Publish};
-ghost use Rattle.valid.specs.Ready.{Ready};
+ghost use Rattle.view.specs.Ready.{Ready};
 ghost use Rattle.advance.specs.Stepped.{Stepped};
 use crate::change::enter;
 use crate::change::raise_next;

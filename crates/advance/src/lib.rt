@@ -4,7 +4,7 @@
 ghost use mathlib.Core.Path.{_≡_};
 ghost use Rattle.ballot.specs.Header.{itemsOf};
 ghost use Rattle.ballot.specs.Clash.{clashIn, RowsOf};
-ghost use Rattle.valid.specs.Ready.{Ready};
+ghost use Rattle.view.specs.Ready.{Ready};
 ghost use Rattle.advance.specs.Stepped.{Stepped};
 use ballot::clash::clash_row;
 use rules::Step;

@@ -19,7 +19,7 @@ use Rattle.rules.specs.Rules.{reply}
 use Rattle.state.specs.Layout.{size}
 use Rattle.view.specs.declared.Head.{Head}
 use Rattle.valid.specs.StateOk.{stateOk}
-use Rattle.valid.specs.Ready.{Room, Ready}
+use Rattle.view.specs.Ready.{Room, Ready}
 use Rattle.valid.proofs.Ready.{ready-of-ok, ok-of-ready}
 use Rattle.advance.specs.Stepped.{Stepped}
 use Rattle.engine.specs.Engine.{headOf, Prepared, leaveOn, stepAnswer, stepBytes, freshAnswer, freshBytes, freshState}

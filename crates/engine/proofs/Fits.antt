@@ -28,8 +28,8 @@ use Rattle.view.specs.declared.Head.{Head}
 use Rattle.view.specs.View.{tableOf, stateOf}
 use Rattle.view.specs.Good.{Good}
 use Rattle.view.proofs.Meets.{hash-below}
-use Rattle.valid.specs.Ready.{Room}
-use Rattle.valid.proofs.Heard.{number-told}
+use Rattle.view.specs.Ready.{Room}
+use Rattle.view.proofs.Heard.{number-told}
 
 module _ (h : Head) (clash : ℕ → ℕ → Bool) (room : Room h) (c : Contents) (G : Good (tableOf h clash) c) where
   abbrev W : Valid (tableOf h clash) (stateOf c)

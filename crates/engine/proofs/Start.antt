@@ -16,7 +16,7 @@ use Rattle.state.proofs.Fresh.{fresh-holds}
 use Rattle.view.specs.declared.Head.{Head}
 use Rattle.view.specs.View.{told, tableOf, stateOf}
 use Rattle.view.specs.Good.{Good}
-use Rattle.valid.specs.Ready.{Room, Ready}
+use Rattle.view.specs.Ready.{Room, Ready}
 use Rattle.engine.specs.Engine.{freshState}
 use Rattle.engine.proofs.Zeros.{zeros-length, zeros-at}
 

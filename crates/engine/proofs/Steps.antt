@@ -25,7 +25,7 @@ use Rattle.view.specs.Effect.{effectOn}
 use Rattle.view.specs.Good.{Good}
 use Rattle.view.proofs.Meets.{meets}
 use Rattle.view.proofs.Keeps.{keeps-good}
-use Rattle.valid.specs.Ready.{Ready}
+use Rattle.view.specs.Ready.{Ready}
 use Rattle.valid.proofs.Ready.{ok-of-ready}
 use Rattle.engine.specs.Engine.{headOf, boardTable, leaveOn, stepAnswer, stepBytes}
 use Rattle.engine.proofs.Fits.{good-fits}

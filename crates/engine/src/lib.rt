@@ -3,7 +3,7 @@
 ghost use mathlib.Core.Path.{_≡_};
 ghost use lib.ListN.{length, replicate};
 ghost use Rattle.ballot.specs.Clash.{clashIn};
-ghost use Rattle.valid.specs.Ready.{Ready};
+ghost use Rattle.view.specs.Ready.{Ready};
 ghost use Rattle.engine.specs.Engine.{headOf, Prepared, stepAnswer, stepBytes, freshAnswer, freshBytes};
 use ballot::check_table;
 use ballot::header;

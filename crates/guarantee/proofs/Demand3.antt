@@ -20,7 +20,7 @@ use Rattle.rules.proofs.Demand3.{demand-3, counted}
 use Rattle.rules.proofs.Runs.{ruled}
 use Rattle.state.specs.Contents.{contents}
 use Rattle.view.specs.View.{member, stateOf}
-use Rattle.valid.specs.Ready.{Ready}
+use Rattle.view.specs.Ready.{Ready}
 use Rattle.engine.specs.Engine.{headOf, boardTable, stepAnswer, stepBytes, freshState}
 use Rattle.engine.proofs.Calls.{room-of}
 use Rattle.engine.proofs.Start.{fresh-state, fresh-ready}

@@ -14,7 +14,7 @@ use Rattle.state.specs.Layout.{peers}
 use Rattle.state.specs.Contents.{contents}
 use Rattle.state.specs.Sets.{signerCount, sharerCount}
 use Rattle.view.specs.declared.Head.{Head}
-use Rattle.valid.specs.Ready.{Ready}
+use Rattle.view.specs.Ready.{Ready}
 
 -- peers above n that are not in the set add nothing
 weight-stop : (w : ℕ → ℕ) (n d : ℕ) (S : ℕ → Bool) → ((k : ℕ) → n < k → S k ≡ false) → weight w (n + d) S ≡ weight w n S

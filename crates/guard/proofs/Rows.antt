@@ -27,7 +27,7 @@ use Rattle.state.specs.Contents.{contents}
 use Rattle.state.specs.Sets.{heldOf}
 use Rattle.view.specs.declared.Head.{Head}
 use Rattle.view.specs.View.{tableOf, stateOf}
-use Rattle.valid.specs.Ready.{Ready}
+use Rattle.view.specs.Ready.{Ready}
 use Rattle.guard.specs.Meet.{meets, holdsOf}
 
 -- two sets below 2 ^ 64 have no item in common exactly if their conjunction is 0

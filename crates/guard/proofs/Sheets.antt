@@ -23,7 +23,7 @@ use Rattle.state.specs.Sets.{signerCount, postedOf}
 use Rattle.database.specs.Database.{reaches, periodBoard}
 use Rattle.view.specs.declared.Head.{Head}
 use Rattle.view.specs.View.{tableOf, stateOf}
-use Rattle.valid.specs.Ready.{Ready}
+use Rattle.view.specs.Ready.{Ready}
 use Rattle.guard.proofs.Counts.{signers-weigh}
 
 module _ (h : Head) (clash : ℕ → ℕ → Bool) (s : List ℕ) (R : Ready h clash s) where

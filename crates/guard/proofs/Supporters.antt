@@ -30,8 +30,8 @@ use Rattle.state.specs.Contents.{Contents, contents}
 use Rattle.state.specs.Bag.{signerWith}
 use Rattle.view.specs.declared.Head.{Head}
 use Rattle.view.specs.View.{told}
-use Rattle.valid.specs.Ready.{Ready}
-use Rattle.valid.proofs.Heard.{told-in, number-told}
+use Rattle.view.specs.Ready.{Ready}
+use Rattle.view.proofs.Heard.{told-in, number-told}
 use Rattle.guard.specs.Support.{heardSigner, backSigner, withPeer, gathered}
 use Rattle.guard.proofs.Counts.{among}
 

@@ -13,7 +13,7 @@ ghost use Rattle.rules.specs.Rules.{boardBy, backers};
 ghost use Rattle.state.specs.declared.Fact.the-variants.{Posted};
 ghost use Rattle.state.specs.Contents.{contents, Canon};
 ghost use Rattle.view.specs.View.{tableOf, stateOf};
-ghost use Rattle.valid.specs.Ready.{Ready};
+ghost use Rattle.view.specs.Ready.{Ready};
 use crate::bag::board_of_entry;
 use crate::bag::is_full;
 use crate::bag::period_of;

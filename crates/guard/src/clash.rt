@@ -6,7 +6,7 @@ ghost use Rattle.ballot.specs.Clash.{clashIn, clashMask};
 ghost use Rattle.rules.specs.Table.{clashing};
 ghost use Rattle.state.specs.Contents.{contents, Canon};
 ghost use Rattle.view.specs.View.{tableOf, stateOf};
-ghost use Rattle.valid.specs.Ready.{Ready};
+ghost use Rattle.view.specs.Ready.{Ready};
 ghost use Rattle.guard.specs.Meet.{meets, holdsOf};
 use state::sets::held_in;
 use view::Head;

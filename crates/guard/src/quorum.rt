@@ -7,7 +7,7 @@ ghost use Rattle.ballot.specs.Clash.{clashIn};
 ghost use Rattle.state.specs.declared.Fact.the-variants.{Shared, Known};
 ghost use Rattle.state.specs.declared.Number.the-variants.{OpenOf};
 ghost use Rattle.state.specs.Contents.{contents};
-ghost use Rattle.valid.specs.Ready.{Ready};
+ghost use Rattle.view.specs.Ready.{Ready};
 use state::numbers::open_of;
 use state::sets::sharer_count;
 use state::sets::signer_count;

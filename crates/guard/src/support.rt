@@ -12,7 +12,7 @@ ghost use Rattle.rules.specs.Bag.{isIn};
 ghost use Rattle.state.specs.Layout.{entries};
 ghost use Rattle.state.specs.Contents.{contents, Canon};
 ghost use Rattle.view.specs.View.{stateOf};
-ghost use Rattle.valid.specs.Ready.{Ready};
+ghost use Rattle.view.specs.Ready.{Ready};
 ghost use Rattle.guard.specs.Support.{heardSigner, backSigner, withPeer, gathered};
 use state::bag::bag_len;
 use state::bag::signer_at;

@@ -12,7 +12,7 @@ use Rattle.base.specs.Weight.{weight, ones}
 use Rattle.base.proofs.Refusals.{stop, pass, none-left}
 use Rattle.state.specs.Contents.{Canon}
 use Rattle.view.specs.declared.Head.{Head}
-use Rattle.valid.specs.Ready.{Ready}
+use Rattle.view.specs.Ready.{Ready}
 use borrow.Author.Needs.{needs}
 
 pub ruleset row = (stop, pass, none-left)

@@ -6,7 +6,7 @@ ghost use Rattle.rules.specs.Rules.{answer};
 ghost use Rattle.rules.specs.declared.Step.the-variants.{Post, Hand, Sign, Take, Share, Receipt};
 ghost use Rattle.state.specs.Contents.{contents};
 ghost use Rattle.view.specs.View.{tableOf, stateOf};
-ghost use Rattle.valid.specs.Ready.{Ready};
+ghost use Rattle.view.specs.Ready.{Ready};
 use view::Head;
 
 pub fn judge_post(table: &[u8], s: &[u8], h: Head, x: u8) -> u8

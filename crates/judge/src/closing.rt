@@ -6,7 +6,7 @@ ghost use Rattle.rules.specs.declared.Step.the-variants.{Close, Fetch, SendHash
 ghost use Rattle.state.specs.declared.Number.the-variants.{NextOf};
 ghost use Rattle.state.specs.Contents.{contents};
 ghost use Rattle.view.specs.View.{tableOf, stateOf};
-ghost use Rattle.valid.specs.Ready.{Ready};
+ghost use Rattle.view.specs.Ready.{Ready};
 use view::Head;
 
 pub fn judge_close(table: &[u8], s: &[u8], h: Head, j: u8) -> u8

@@ -5,7 +5,7 @@ ghost use Rattle.rules.specs.Rules.{answer};
 ghost use Rattle.rules.specs.declared.Step.the-variants.{FalseSignature, FalseShare, FalseHash, FalseBacking, Down, Up};
 ghost use Rattle.state.specs.Contents.{contents};
 ghost use Rattle.view.specs.View.{tableOf, stateOf};
-ghost use Rattle.valid.specs.Ready.{Ready};
+ghost use Rattle.view.specs.Ready.{Ready};
 use rules::Entry;
 use view::Head;
 

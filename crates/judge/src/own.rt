@@ -10,7 +10,7 @@ ghost use Rattle.rules.specs.Rules.{boardBy};
 ghost use Rattle.state.specs.declared.Number.the-variants.{NextOf};
 ghost use Rattle.state.specs.Contents.{contents};
 ghost use Rattle.view.specs.View.{tableOf, stateOf};
-ghost use Rattle.valid.specs.Ready.{Ready};
+ghost use Rattle.view.specs.Ready.{Ready};
 use rules::Entry;
 use view::Head;
 

@@ -12,7 +12,7 @@ use Rattle.ballot.specs.Table.{refusal}
 use Rattle.state.specs.Layout.{size}
 use Rattle.state.specs.Contents.{contents, Canon}
 use Rattle.view.specs.declared.Head.{Head}
-use Rattle.valid.specs.Ready.{Ready}
+use Rattle.view.specs.Ready.{Ready}
 use Rattle.engine.specs.Engine.{headOf, freshState}
 use Rattle.text.specs.Wrote.{over, Wrote}
 use Rattle.text.proofs.Writing.{_▷_, renamed}

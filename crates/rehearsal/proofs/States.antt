@@ -9,7 +9,7 @@ use lib.ListN.{length}
 use Rattle.ballot.specs.Clash.{clashIn}
 use Rattle.state.specs.Layout.{size}
 use Rattle.view.specs.declared.Head.{Head}
-use Rattle.valid.specs.Ready.{Ready}
+use Rattle.view.specs.Ready.{Ready}
 use Rattle.engine.specs.Engine.{headOf, Prepared, stepAnswer, stepBytes, freshState}
 use Rattle.engine.proofs.Calls.{room-of}
 use Rattle.engine.proofs.Start.{fresh-ready}

@@ -1,4 +1,3 @@
-pub mod Heard
 pub mod Facts
 pub mod Peers
 pub mod Bag

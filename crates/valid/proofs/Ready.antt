@@ -21,8 +21,8 @@ use Rattle.state.specs.Contents.{contents}
 use Rattle.view.specs.declared.Head.{Head}
 use Rattle.view.specs.View.{tableOf, stateOf}
 use Rattle.valid.specs.StateOk.{factOk, factsOk, peersOk, bagOk, stateOk}
-use Rattle.valid.specs.Ready.{Room, Ready}
-use Rattle.valid.proofs.Heard.{told-number, told-in, number-told}
+use Rattle.view.specs.Ready.{Room, Ready}
+use Rattle.view.proofs.Heard.{told-number, told-in, number-told}
 use Rattle.valid.proofs.Facts.{fact-of-ok, ok-of-facts}
 use Rattle.valid.proofs.Peers.{Numbers, peers-of-ok, ok-of-peers}
 use Rattle.valid.proofs.Bag.{canon-of-ok, bag-of-ok, ok-of-bag}

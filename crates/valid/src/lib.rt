@@ -2,7 +2,7 @@
 // It uses state's layout, and view for what a good state is. It is the one crate above state that reads bytes by their places.
 ghost use mathlib.Core.Path.{_≡_};
 ghost use Rattle.valid.specs.StateOk.{stateOk};
-ghost use Rattle.valid.specs.Ready.{Room};
+ghost use Rattle.view.specs.Ready.{Room};
 use crate::counters::peers_ok;
 use crate::entries::bag_ok;
 use crate::entries::count_of;

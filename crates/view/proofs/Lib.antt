@@ -1,3 +1,4 @@
 pub mod Told
 pub mod Meets
 pub mod Keeps
+pub mod Heard

@@ -1,3 +1,4 @@
 pub mod View
 pub mod Effect
 pub mod Good
+pub mod Ready
