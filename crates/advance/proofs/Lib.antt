@@ -1,5 +1,1 @@
-pub mod Whole
-pub mod May
-pub mod Did
-pub mod Raised
-pub mod Entered
+pub mod Clashing

@@ -1,42 +1,40 @@
 // The inner step: on a state that is ready, a step's answer and effect, in place. Nothing is copied and nothing re-validated.
 // Rows of clashes may be handed in, made once for many steps; where there is no row of an item, its row is made anew.
-// It uses judge to decide, and counters, database and state to change.
+// It uses steps, and of ballot only what clashes.
 ghost use mathlib.Core.Path.{_≡_};
 ghost use Rattle.ballot.specs.Header.{itemsOf};
 ghost use Rattle.ballot.specs.Clash.{clashIn, RowsOf};
 ghost use Rattle.view.specs.Ready.{Ready};
-ghost use Rattle.advance.specs.Stepped.{Stepped};
+ghost use Rattle.steps.specs.Stepped.{Stepped};
 use ballot::clash::clash_row;
 use rules::Step;
+use steps::ballots;
+use steps::closing;
+use steps::outside;
 use view::Head;
 
-mod ballots;
-mod change;
-mod closing;
-mod outside;
-
 pub fn advance(table: &[u8], s: &mut [u8], h: Head, rows: &[u64], st: Step) -> u8
-    requires { ⌜ Ready h (clashIn (now table)) (now s) × (h .items ≡ itemsOf (now table)) × RowsOf (now table) (now rows) ⌝ }
+    requires { ⌜ Ready h (now s) × (h .items ≡ itemsOf (now table)) × RowsOf (now table) (now rows) ⌝ }
     ensures { λ r. ⌜ Stepped h (clashIn (now (table .entry))) (now (s .entry)) (now (s .exit)) st r ⌝ }
 {
     match st {
-        Step::Post(x) => ballots::step_post(table, s, h, x),
-        Step::Hand(j, x) => ballots::step_hand(table, s, h, clash_row(table, rows, x), j, x),
-        Step::Sign(j, x) => ballots::step_sign(table, s, h, j, x),
-        Step::Take(j, k, p, x) => ballots::step_take(table, s, h, j, k, p, x),
-        Step::Share(j, x) => ballots::step_share(table, s, h, j, x),
-        Step::Receipt(p, x) => ballots::step_receipt(table, s, h, p, x),
-        Step::Close(j) => closing::step_close(table, s, h, j),
-        Step::Fetch(j, k, p) => closing::step_fetch(table, s, h, j, k, p),
-        Step::SendHash(j, p) => closing::step_send_hash(table, s, h, j, p),
-        Step::Hear(j, e) => closing::step_hear(table, s, h, j, e),
-        Step::Back(j) => closing::step_back(table, s, h, j),
-        Step::Publish(e) => closing::step_publish(table, s, h, e),
-        Step::FalseSignature(j, p, x) => outside::step_false_signature(table, s, h, j, p, x),
-        Step::FalseShare(j, p, x) => outside::step_false_share(table, s, h, j, p, x),
-        Step::FalseHash(j, p, board) => outside::step_false_hash(table, s, h, j, p, board),
-        Step::FalseBacking(j, p, board) => outside::step_false_backing(table, s, h, j, p, board),
-        Step::Down(j) => outside::step_down(table, s, h, j),
-        Step::Up(j) => outside::step_up(table, s, h, j),
+        Step::Post(x) => ballots::step_post(s, h, x),
+        Step::Hand(j, x) => ballots::step_hand(s, h, clash_row(table, rows, x), j, x),
+        Step::Sign(j, x) => ballots::step_sign(s, h, j, x),
+        Step::Take(j, k, p, x) => ballots::step_take(s, h, j, k, p, x),
+        Step::Share(j, x) => ballots::step_share(s, h, j, x),
+        Step::Receipt(p, x) => ballots::step_receipt(s, h, p, x),
+        Step::Close(j) => closing::step_close(s, h, j),
+        Step::Fetch(j, k, p) => closing::step_fetch(s, h, j, k, p),
+        Step::SendHash(j, p) => closing::step_send_hash(s, h, j, p),
+        Step::Hear(j, e) => closing::step_hear(s, h, j, e),
+        Step::Back(j) => closing::step_back(s, h, j),
+        Step::Publish(e) => closing::step_publish(s, h, e),
+        Step::FalseSignature(j, p, x) => outside::step_false_signature(s, h, j, p, x),
+        Step::FalseShare(j, p, x) => outside::step_false_share(s, h, j, p, x),
+        Step::FalseHash(j, p, board) => outside::step_false_hash(s, h, j, p, board),
+        Step::FalseBacking(j, p, board) => outside::step_false_backing(s, h, j, p, board),
+        Step::Down(j) => outside::step_down(s, h, j),
+        Step::Up(j) => outside::step_up(s, h, j),
     }
 }

@@ -21,7 +21,7 @@ use Rattle.view.specs.declared.Head.{Head}
 use Rattle.valid.specs.StateOk.{stateOk}
 use Rattle.view.specs.Ready.{Room, Ready}
 use Rattle.valid.proofs.Ready.{ready-of-ok, ok-of-ready}
-use Rattle.advance.specs.Stepped.{Stepped}
+use Rattle.steps.specs.Stepped.{Stepped}
 use Rattle.engine.specs.Engine.{headOf, Prepared, leaveOn, stepAnswer, stepBytes, freshAnswer, freshBytes, freshState}
 
 -- a header, field by field
@@ -67,8 +67,8 @@ module _ (table : List ℕ) {r : ℕ} (checked : r ≡ refusal table) where
         state-test : ok ≡ stateOk (headOf table) s
         state-test = tested ∙ ap (λ h. stateOk h s) head
 
-        pub ready-read : Bytes s → ok ≡ true → Ready h (clashIn table) s
-        ready-read bytes y = ready-of-ok h (clashIn table) s (room-read h head) bytes (sym tested ∙ y)
+        pub ready-read : Bytes s → ok ≡ true → Ready h s
+        ready-read bytes y = ready-of-ok h s (room-read h head) bytes (sym tested ∙ y)
 
         module _ (step : List ℕ) where
           pub step-state-refused : ok ≡ false → (14 ≡ stepAnswer table s step) × (s ≡ stepBytes table s step)
@@ -76,9 +76,9 @@ module _ (table : List ℕ) {r : ℕ} (checked : r ≡ refusal table) where
           step-state-refused n = (rw (fit, sym state-test, n), rw (fit, sym state-test, n))
 
 -- a step on a table and a state that were judged before
-module _ {table : List ℕ} {h : Head} {rows : List ℕ} (P : Prepared table h rows) {s : List ℕ} (R : Ready h (clashIn table) s) (step : List ℕ) where
+module _ {table : List ℕ} {h : Head} {rows : List ℕ} (P : Prepared table h rows) {s : List ℕ} (R : Ready h s) (step : List ℕ) where
   state-taken : stateOk (headOf table) s ≡ true
-  state-taken = subst (λ h. stateOk h s ≡ true) (P .head) (ok-of-ready h (clashIn table) s R)
+  state-taken = subst (λ h. stateOk h s ≡ true) (P .head) (ok-of-ready h s R)
 
   pub form-refused : (c : Call) → c ≡ read step → c ≡ Malformed → (5 ≡ stepAnswer table s step) × (s ≡ stepBytes table s step)
   unfolding stepAnswer stepBytes reply

@@ -45,9 +45,9 @@ empty-good h clash = record {
   sound = record { hears = λ j e q. false-true q; flags = λ j. omega arith };
 }
 
-pub fresh-ready : (h : Head) (clash : ℕ → ℕ → Bool) → Room h → Ready h clash freshState
-fresh-ready h clash room = record {
+pub fresh-ready : (h : Head) → Room h → Ready h freshState
+fresh-ready h room = record {
   room = room;
   canon = fresh-says .canon;
-  good = subst (λ c. Good (tableOf h clash) c) (sym (fresh-says .says)) (empty-good h clash);
+  good = λ clash. subst (λ c. Good (tableOf h clash) c) (sym (fresh-says .says)) (empty-good h clash);
 }

@@ -25,6 +25,7 @@ use Rattle.view.specs.Effect.{effectOn}
 use Rattle.view.specs.Good.{Good}
 use Rattle.view.proofs.Meets.{meets}
 use Rattle.view.proofs.Keeps.{keeps-good}
+use Rattle.view.proofs.Whatever.{good-whatever}
 use Rattle.view.specs.Ready.{Ready}
 use Rattle.valid.proofs.Ready.{ok-of-ready}
 use Rattle.engine.specs.Engine.{headOf, boardTable, leaveOn, stepAnswer, stepBytes}
@@ -33,9 +34,9 @@ use Rattle.engine.proofs.Fits.{good-fits}
 -- the bytes t are ready, and hold what the rules leave of s after the call
 pub record Left (h : Head) (clash : ℕ → ℕ → Bool) (s t : List ℕ) (c : Call) : Type 0 where
   pub holds : stateOf (contents t) ≡ leave (tableOf h clash) (stateOf (contents s)) c
-  pub ready : Ready h clash t
+  pub ready : Ready h t
 
-module _ (h : Head) (clash : ℕ → ℕ → Bool) (s : List ℕ) (R : Ready h clash s) where
+module _ (h : Head) (clash : ℕ → ℕ → Bool) (s : List ℕ) (R : Ready h s) where
   abbrev T : Table
   T = tableOf h clash
 
@@ -45,11 +46,11 @@ module _ (h : Head) (clash : ℕ → ℕ → Bool) (s : List ℕ) (R : Ready h c
   taken st zero =
       let clear = answered T (stateOf (contents s)) st zero in
       let new = effectOn T (contents s) st in
-      let good = keeps-good T (contents s) st (R .good) clear in
+      let good = keeps-good T (contents s) st (R .good clash) clear in
       let H = encode-holds new (good-fits h clash (R .room) new good) in
       record {
-        holds = ap stateOf (H .says) ∙ meets (contents s) (R .good .sound) T st clear ∙ rw zero;
-        ready = record { room = R .room; canon = H .canon; good = subst (λ c. Good T c) (sym (H .says)) good };
+        holds = ap stateOf (H .says) ∙ meets (contents s) (R .good clash .sound) T st clear ∙ rw zero;
+        ready = record { room = R .room; canon = H .canon; good = good-whatever h clash (contents (encode new)) (subst (λ c. Good T c) (sym (H .says)) good) };
       }
 
   -- one that is refused
@@ -67,10 +68,10 @@ module _ (h : Head) (clash : ℕ → ℕ → Bool) (s : List ℕ) (R : Ready h c
       go (inl e) = rw e (taken st (eqb-true _ 0 e))
       go (inr e) = rw e (refused st e)
 
-module _ (table : List ℕ) (fit : refusal table ≡ 0) (s : List ℕ) (R : Ready (headOf table) (clashIn table) s) (step : List ℕ) where
+module _ (table : List ℕ) (fit : refusal table ≡ 0) (s : List ℕ) (R : Ready (headOf table) s) (step : List ℕ) where
   pub step-answers : stepAnswer table s step ≡ reply (boardTable table) (stateOf (contents s)) (read step)
   unfolding stepAnswer
-  step-answers = rw (fit, ok-of-ready (headOf table) (clashIn table) s R)
+  step-answers = rw (fit, ok-of-ready (headOf table) s R)
 
   pub step-leaves : Left (headOf table) (clashIn table) s (stepBytes table s step) (read step)
   unfolding stepBytes

@@ -2,7 +2,6 @@
 // It uses ballot to judge the table, valid to judge the state, and advance for the step.
 ghost use mathlib.Core.Path.{_≡_};
 ghost use lib.ListN.{length, replicate};
-ghost use Rattle.ballot.specs.Clash.{clashIn};
 ghost use Rattle.view.specs.Ready.{Ready};
 ghost use Rattle.engine.specs.Engine.{headOf, Prepared, stepAnswer, stepBytes, freshAnswer, freshBytes};
 use ballot::check_table;
@@ -52,7 +51,7 @@ pub fn fresh(table: &[u8], s: &mut [u8]) -> u8
 
 // A step on a table that was taken, with what was made of it once, and on a state that is ready: nothing is validated again.
 pub fn run_step(table: &[u8], s: &mut [u8], h: Head, rows: &[u64], step: &[u8]) -> u8
-    requires { ⌜ Prepared (now table) h (now rows) × Ready h (clashIn (now table)) (now s) ⌝ }
+    requires { ⌜ Prepared (now table) h (now rows) × Ready h (now s) ⌝ }
     ensures { λ r. ⌜ (r ≡ stepAnswer (now (table .entry)) (now (s .entry)) (now (step .entry))) × (now (s .exit) ≡ stepBytes (now (table .entry)) (now (s .entry)) (now (step .entry))) ⌝ }
 {
     match rules::read_step(step) {

@@ -32,7 +32,7 @@ module _ (table : List ℕ) (fit : refusal table ≡ 0) where
   T = boardTable table
 
   -- the engine's calls are the rules' calls, from any state that is ready
-  follows : (calls : List (List ℕ)) (s : List ℕ) (seen : List Fed) → Ready (headOf table) (clashIn table) s
+  follows : (calls : List (List ℕ)) (s : List ℕ) (seen : List Fed) → Ready (headOf table) s
       → runFrom (λ s. stateOf (contents s)) (stepAnswer table) (stepBytes table) s seen calls ≡ ruled T (stateOf (contents s)) seen calls
   unfolding runFrom
   follows [] s seen R = refl
@@ -44,7 +44,7 @@ module _ (table : List ℕ) (fit : refusal table ≡ 0) where
   -- so they are from the fresh state
   as-ruled : (calls : List (List ℕ)) → afterCalls table calls ≡ run T calls
   unfolding afterCalls run
-  as-ruled calls = follows calls freshState [] (fresh-ready (headOf table) (clashIn table) (room-of table (sym fit) refl)) ∙ ap (λ (s : State). ruled T s [] calls) fresh-state
+  as-ruled calls = follows calls freshState [] (fresh-ready (headOf table) (room-of table (sym fit) refl)) ∙ ap (λ (s : State). ruled T s [] calls) fresh-state
 
   honest-same : (k : ℕ) → isHonest table k ≡ member (honestOf table) k
   unfolding isHonest member

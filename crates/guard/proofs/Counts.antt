@@ -14,6 +14,7 @@ use Rattle.state.specs.Layout.{peers}
 use Rattle.state.specs.Contents.{contents}
 use Rattle.state.specs.Sets.{signerCount, sharerCount}
 use Rattle.view.specs.declared.Head.{Head}
+use Rattle.view.specs.View.{noClash}
 use Rattle.view.specs.Ready.{Ready}
 
 -- peers above n that are not in the set add nothing
@@ -35,11 +36,18 @@ few-of r t u w e f = go (either (ltb r t))
     go (inl q) = q ∙ rw (lt-leb u w (omega (arith, ltb-true r t q)))
     go (inr q) = q ∙ rw (le-leb u w (omega (arith, ltb-false r t q)))
 
-module _ (h : Head) (clash : ℕ → ℕ → Bool) (s : List ℕ) (R : Ready h clash s) where
+module _ (h : Head) (s : List ℕ) (R : Ready h s) where
   pub signers-weigh : (j p x : ℕ) → signerCount (contents s) j p x ≡ weight ones (h .n) (λ k. contents s .has (Known j p x k))
   unfolding signerCount
-  signers-weigh j p x = among ones (h .n) peers (λ k. contents s .has (Known j p x k)) (R .room .peers) (λ k q. R .good .valid .sets .knows j p x k q .1 .1)
+  signers-weigh j p x = among ones (h .n) peers (λ k. contents s .has (Known j p x k)) (R .room .peers) (λ k q. R .good noClash .valid .sets .knows j p x k q .1 .1)
 
-  pub sharers-weigh : (p x : ℕ) → sharerCount (contents s) p x ≡ weight ones (h .n) (λ k. contents s .has (Shared k p x))
+  sharers-weigh : (p x : ℕ) → sharerCount (contents s) p x ≡ weight ones (h .n) (λ k. contents s .has (Shared k p x))
   unfolding sharerCount
-  sharers-weigh p x = among ones (h .n) peers (λ k. contents s .has (Shared k p x)) (R .room .peers) (λ k q. R .good .valid .sets .shares k p x q .0 .1)
+  sharers-weigh p x = among ones (h .n) peers (λ k. contents s .has (Shared k p x)) (R .room .peers) (λ k q. R .good noClash .valid .sets .shares k p x q .0 .1)
+
+  -- the period was read, then the signers counted
+  pub signers-few : (j p q x : ℕ) {c t : ℕ} → p ≡ q → c ≡ signerCount (contents s) j p x → t ≡ h .t → ltb c t ≡ not (leb (h .t) (weight ones (h .n) (λ k. contents s .has (Known j q x k))))
+  signers-few j p q x i e f = few-of _ _ _ _ (e ∙ ap (λ (p : ℕ). signerCount (contents s) j p x) i ∙ signers-weigh j q x) f
+
+  pub sharers-few : (p x : ℕ) {c t : ℕ} → c ≡ sharerCount (contents s) p x → t ≡ h .t → ltb c t ≡ not (leb (h .t) (weight ones (h .n) (λ k. contents s .has (Shared k p x))))
+  sharers-few p x e f = few-of _ _ _ _ (e ∙ sharers-weigh p x) f

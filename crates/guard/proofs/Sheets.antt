@@ -22,16 +22,16 @@ use Rattle.state.specs.Contents.{Contents, contents}
 use Rattle.state.specs.Sets.{signerCount, postedOf}
 use Rattle.database.specs.Database.{reaches, periodBoard}
 use Rattle.view.specs.declared.Head.{Head}
-use Rattle.view.specs.View.{tableOf, stateOf}
+use Rattle.view.specs.View.{noClash, tableOf, stateOf}
 use Rattle.view.specs.Ready.{Ready}
 use Rattle.guard.proofs.Counts.{signers-weigh}
 
-module _ (h : Head) (clash : ℕ → ℕ → Bool) (s : List ℕ) (R : Ready h clash s) where
+module _ (h : Head) (s : List ℕ) (R : Ready h s) where
   -- the board that a peer finds is the board of the rules
-  pub board-found : (j p : ℕ) → periodBoard (contents s) j p (h .items) (h .t) ≡ boardFrom (tableOf h clash) (stateOf (contents s) .db j p)
+  pub board-found : (j p : ℕ) {r : ℕ} → r ≡ periodBoard (contents s) j p (h .items) (h .t) → r ≡ boardFrom (tableOf h noClash) (stateOf (contents s) .db j p)
   unfolding periodBoard boardFrom reaches
-  board-found j p = pack-ext (h .items) (λ x. leb (h .t) (signerCount (contents s) j p x)) (λ x. leb (h .t) (weight ones (h .n) (λ k. contents s .has (Known j p x k))))
-      (λ x l. ap (λ (w : ℕ). leb (h .t) w) (signers-weigh h clash s R j p x))
+  board-found j p e = e ∙ pack-ext (h .items) (λ x. leb (h .t) (signerCount (contents s) j p x)) (λ x. leb (h .t) (weight ones (h .n) (λ k. contents s .has (Known j p x k))))
+      (λ x l. ap (λ (w : ℕ). leb (h .t) w) (signers-weigh h s R j p x))
 
 or-within : (a b : Bool) → (a && not b ≡ true → ⊥) → a || b ≡ b
 or-within true true f = refl

@@ -29,7 +29,7 @@ use Rattle.state.specs.Layout.{hashKind, backingKind}
 use Rattle.state.specs.Contents.{Contents, contents}
 use Rattle.state.specs.Bag.{signerWith}
 use Rattle.view.specs.declared.Head.{Head}
-use Rattle.view.specs.View.{told}
+use Rattle.view.specs.View.{noClash, told}
 use Rattle.view.specs.Ready.{Ready}
 use Rattle.view.proofs.Heard.{told-in, number-told}
 use Rattle.guard.specs.Support.{heardSigner, backSigner, withPeer, gathered}
@@ -222,27 +222,33 @@ module _ (c : Contents) (p B k : ℕ) (a : 1 ≤ k) where
           let f = in-at (Backing k p B) (c .bag) t in
           any-at (λ e. eqb (signerWith backingKind p B (entryAt (c .bag) e)) k) (f .0) (length (c .bag)) (f .1) (eq-eqb _ k (found-backing (entryAt (c .bag) (f .0)) k p B (sym (eq-of-same (Backing k p B) (entryAt (c .bag) (f .0)) (f .2)))))
 
--- fewer than t, weighed as the rules do
-pub fewer-weighed : (r : Bool) (t w v : ℕ) → r ≡ not (leb t w) → w ≡ v → r ≡ not (leb t v)
-fewer-weighed r t w v e q = e ∙ ap (λ (n : ℕ). not (leb t n)) q
-
 -- in a state that is ready no supporter is above n
 
-module _ (h : Head) (clash : ℕ → ℕ → Bool) (s : List ℕ) (R : Ready h clash s) where
-  pub hearers-weigh : (j p B set : ℕ) → set ≡ gathered (heardSigner (contents s) j p B) (length (contents s .bag))
+module _ (h : Head) (s : List ℕ) (R : Ready h s) where
+  hearers-weigh : (j p B set : ℕ) → set ≡ gathered (heardSigner (contents s) j p B) (length (contents s .bag))
       → machine.ones set ≡ weight ones (h .n) (λ k. told (λ e. contents s .has (Heard j e)) 0 (contents s .bag) k p B)
   hearers-weigh j p B set e =
       gathered-weigh (heardSigner (contents s) j p B) (h .n) (length (contents s .bag)) set (λ k. told (λ e. contents s .has (Heard j e)) 0 (contents s .bag) k p B)
       (R .room .peers)
-      (λ k t. R .good .valid .bag .entries (Hash k p B) (told-in (λ e. contents s .has (Heard j e)) 0 (contents s .bag) k p B t) .0 .1)
+      (λ k t. R .good noClash .valid .bag .entries (Hash k p B) (told-in (λ e. contents s .has (Heard j e)) 0 (contents s .bag) k p B t) .0 .1)
       (λ k a. hearers-same (contents s) p B k a j)
       e
 
-  pub backers-weigh : (p B set : ℕ) → set ≡ gathered (backSigner (contents s) p B) (length (contents s .bag))
+  backers-weigh : (p B set : ℕ) → set ≡ gathered (backSigner (contents s) p B) (length (contents s .bag))
       → machine.ones set ≡ weight ones (h .n) (λ k. isIn (Backing k p B) (contents s .bag))
   backers-weigh p B set e =
       gathered-weigh (backSigner (contents s) p B) (h .n) (length (contents s .bag)) set (λ k. isIn (Backing k p B) (contents s .bag))
       (R .room .peers)
-      (λ k t. R .good .valid .bag .entries (Backing k p B) t .0 .1)
+      (λ k t. R .good noClash .valid .bag .entries (Backing k p B) t .0 .1)
       (λ k a. backers-same (contents s) p B k a)
       e
+
+  -- fewer than t, weighed as the rules do
+
+  pub hearers-few : (j p B set : ℕ) {r : Bool} → set ≡ gathered (heardSigner (contents s) j p B) (length (contents s .bag)) → r ≡ not (leb (h .t) (machine.ones set))
+      → r ≡ not (leb (h .t) (weight ones (h .n) (λ k. told (λ e. contents s .has (Heard j e)) 0 (contents s .bag) k p B)))
+  hearers-few j p B set e f = f ∙ ap (λ (n : ℕ). not (leb (h .t) n)) (hearers-weigh j p B set e)
+
+  pub backers-few : (p B set : ℕ) {r : Bool} → set ≡ gathered (backSigner (contents s) p B) (length (contents s .bag)) → r ≡ not (leb (h .t) (machine.ones set))
+      → r ≡ not (leb (h .t) (weight ones (h .n) (λ k. isIn (Backing k p B) (contents s .bag))))
+  backers-few p B set e f = f ∙ ap (λ (n : ℕ). not (leb (h .t) n)) (backers-weigh p B set e)

@@ -6,13 +6,12 @@ ghost use lib.Dec.{leb};
 ghost use Rattle.base.specs.Below.{any};
 ghost use Rattle.base.specs.Bits.{bit};
 ghost use Rattle.base.specs.Weight.{weight, ones};
-ghost use Rattle.ballot.specs.Clash.{clashIn};
 ghost use Rattle.rules.specs.declared.Entry.the-variants.{Board};
 ghost use Rattle.rules.specs.Bag.{isFull, entryAt, periodOf, boardOf};
-ghost use Rattle.rules.specs.Rules.{boardBy, backers};
+ghost use Rattle.rules.specs.Rules.{backers};
 ghost use Rattle.state.specs.declared.Fact.the-variants.{Posted};
 ghost use Rattle.state.specs.Contents.{contents, Canon};
-ghost use Rattle.view.specs.View.{tableOf, stateOf};
+ghost use Rattle.view.specs.View.{boardOn};
 ghost use Rattle.view.specs.Ready.{Ready};
 use crate::bag::board_of_entry;
 use crate::bag::is_full;
@@ -25,9 +24,9 @@ use state::sets::posted;
 use view::Head;
 
 // Peer j's board of period p.
-pub fn board_by(table: &[u8], s: &[u8], h: Head, j: u8, p: u8) -> u64
-    requires { ⌜ Ready h (clashIn (now table)) (now s) ⌝ }
-    ensures { λ r. ⌜ r ≡ boardBy (tableOf h (clashIn (now (table .entry)))) (stateOf (contents (now (s .entry)))) j p ⌝ }
+pub fn board_by(s: &[u8], h: Head, j: u8, p: u8) -> u64
+    requires { ⌜ Ready h (now s) ⌝ }
+    ensures { λ r. ⌜ r ≡ boardOn h (now (s .entry)) j p ⌝ }
 {
     board_of(s, j, p, h.items, h.t)
 }
@@ -42,12 +41,12 @@ pub fn unposted(s: &[u8], h: Head, board: u64) -> bool
 }
 
 // The bag has fewer than t backings of the period and the board of entry e.
-pub fn few_backers_of(table: &[u8], s: &[u8], h: Head, e: u8) -> bool
-    requires { ⌜ Ready h (clashIn (now table)) (now s) ⌝ }
+pub fn few_backers_of(s: &[u8], h: Head, e: u8) -> bool
+    requires { ⌜ Ready h (now s) ⌝ }
     ensures { λ r. ⌜ r ≡ not (leb (h .t) (weight ones (h .n) (backers (contents (now (s .entry)) .bag) (periodOf (entryAt (contents (now (s .entry)) .bag) e)) (boardOf (entryAt (contents (now (s .entry)) .bag) e))))) ⌝ }
 {
     let x = entry_at(s, e as usize);
-    few_backers(table, s, h, period_of(x), board_of_entry(x))
+    few_backers(s, h, period_of(x), board_of_entry(x))
 }
 
 // There is no room for the board of entry e.

@@ -1,11 +1,9 @@
 // Clashes with what a peer holds: 11.
 ghost use mathlib.Core.Path.{_≡_};
 ghost use Rattle.base.specs.Below.{any};
-ghost use Rattle.ballot.specs.Header.{itemsOf};
-ghost use Rattle.ballot.specs.Clash.{clashIn, clashMask};
 ghost use Rattle.rules.specs.Table.{clashing};
 ghost use Rattle.state.specs.Contents.{contents, Canon};
-ghost use Rattle.view.specs.View.{tableOf, stateOf};
+ghost use Rattle.view.specs.View.{inRow, tableOf, stateOf};
 ghost use Rattle.view.specs.Ready.{Ready};
 ghost use Rattle.guard.specs.Meet.{meets, holdsOf};
 use state::sets::held_in;
@@ -41,10 +39,10 @@ fn ever_holds(s: &[u8], row: u64, j: u8, periods: u8) -> bool
     false
 }
 
-// Peer j holds, in any period, an item that clashes with x; the row has the items that clash with x.
-pub fn holds_clash(table: &[u8], s: &[u8], h: Head, row: u64, j: u8, x: u8) -> bool
-    requires { ⌜ Ready h (clashIn (now table)) (now s) × (row ≡ clashMask (now table) x) × (h .items ≡ itemsOf (now table)) ⌝ }
-    ensures { λ r. ⌜ r ≡ clashing (tableOf h (clashIn (now (table .entry)))) (stateOf (contents (now (s .entry))) .held j) x ⌝ }
+// Peer j holds, in any period, an item of the row: one that clashes with x, where the row has all that do.
+pub fn holds_clash(s: &[u8], h: Head, row: u64, j: u8, x: u8) -> bool
+    requires { ⌜ Ready h (now s) ⌝ }
+    ensures { λ r. ⌜ r ≡ clashing (tableOf h (inRow row)) (stateOf (contents (now (s .entry))) .held j) x ⌝ }
 {
     ever_holds(s, row, j, h.periods)
 }

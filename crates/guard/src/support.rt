@@ -6,7 +6,6 @@ ghost use lib.Dec.{leb};
 ghost use lib.Count.{ones as onesIn};
 ghost use lib.ListN.{length};
 ghost use Rattle.base.specs.Weight.{weight, ones};
-ghost use Rattle.ballot.specs.Clash.{clashIn};
 ghost use Rattle.rules.specs.declared.Entry.the-variants.{Backing};
 ghost use Rattle.rules.specs.Bag.{isIn};
 ghost use Rattle.state.specs.Layout.{entries};
@@ -98,16 +97,16 @@ fn fewer(set: u16, t: u8) -> bool
 }
 
 // Peer j heard fewer than t hashes of the board in period p.
-pub fn few_hearers(table: &[u8], s: &[u8], h: Head, j: u8, p: u8, board: u64) -> bool
-    requires { ⌜ Ready h (clashIn (now table)) (now s) ⌝ }
+pub fn few_hearers(s: &[u8], h: Head, j: u8, p: u8, board: u64) -> bool
+    requires { ⌜ Ready h (now s) ⌝ }
     ensures { λ r. ⌜ r ≡ not (leb (h .t) (weight ones (h .n) (λ k. stateOf (contents (now (s .entry))) .heard j k p board))) ⌝ }
 {
     fewer(hearers(s, j, p, board), h.t)
 }
 
 // The bag has fewer than t backings of the board in period p.
-pub fn few_backers(table: &[u8], s: &[u8], h: Head, p: u8, board: u64) -> bool
-    requires { ⌜ Ready h (clashIn (now table)) (now s) ⌝ }
+pub fn few_backers(s: &[u8], h: Head, p: u8, board: u64) -> bool
+    requires { ⌜ Ready h (now s) ⌝ }
     ensures { λ r. ⌜ r ≡ not (leb (h .t) (weight ones (h .n) (λ k. isIn (Backing k p board) (contents (now (s .entry)) .bag)))) ⌝ }
 {
     fewer(backers(s, p, board), h.t)

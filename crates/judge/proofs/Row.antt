@@ -17,15 +17,15 @@ use borrow.Author.Needs.{needs}
 
 pub ruleset row = (stop, pass, none-left)
 
-pub is-canon : (h : Head) (clash : ℕ → ℕ → Bool) (s : List ℕ) → Ready h clash s → Canon s
-is-canon h clash s R = R .canon
+pub is-canon : (h : Head) (s : List ℕ) → Ready h s → Canon s
+is-canon h s R = R .canon
 
 -- a board that passed its test has items of the table only
 pub of-items : (B m : ℕ) {r : Bool} → r ≡ not (ltb B (2 ^ m)) → r ≡ false → B < 2 ^ m
 of-items B m e f = ltb-true B (2 ^ m) (not-false _ (sym e ∙ f))
 
-pub items-fit : (h : Head) (clash : ℕ → ℕ → Bool) (s : List ℕ) → Ready h clash s → h .items ≤ 64
-items-fit h clash s R = R .room .items
+pub items-fit : (h : Head) (s : List ℕ) → Ready h s → h .items ≤ 64
+items-fit h s R = R .room .items
 
 pub ruleset asked = (is-canon, of-items, items-fit, needs)
 

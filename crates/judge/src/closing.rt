@@ -1,17 +1,15 @@
 // Steps 7 to 12: from the close of a period to its board. For each its refusals, in the order in which they are judged.
 ghost use mathlib.Core.Path.{_≡_};
-ghost use Rattle.ballot.specs.Clash.{clashIn};
-ghost use Rattle.rules.specs.Rules.{answer, boardBy};
 ghost use Rattle.rules.specs.declared.Step.the-variants.{Close, Fetch, SendHash, Hear, Back, Publish};
 ghost use Rattle.state.specs.declared.Number.the-variants.{NextOf};
 ghost use Rattle.state.specs.Contents.{contents};
-ghost use Rattle.view.specs.View.{tableOf, stateOf};
+ghost use Rattle.view.specs.View.{noClash, answerOn, boardOn};
 ghost use Rattle.view.specs.Ready.{Ready};
 use view::Head;
 
-pub fn judge_close(table: &[u8], s: &[u8], h: Head, j: u8) -> u8
-    requires { ⌜ Ready h (clashIn (now table)) (now s) ⌝ }
-    ensures { λ r. ⌜ r ≡ answer (tableOf h (clashIn (now (table .entry)))) (stateOf (contents (now (s .entry)))) (Close j) ⌝ }
+pub fn judge_close(s: &[u8], h: Head, j: u8) -> u8
+    requires { ⌜ Ready h (now s) ⌝ }
+    ensures { λ r. ⌜ r ≡ answerOn h noClash (now (s .entry)) (Close j) ⌝ }
 {
     if guard::names::no_peer(h, j) {
         return 6;
@@ -28,9 +26,9 @@ pub fn judge_close(table: &[u8], s: &[u8], h: Head, j: u8) -> u8
     0
 }
 
-pub fn judge_fetch(table: &[u8], s: &[u8], h: Head, j: u8, k: u8, p: u8) -> u8
-    requires { ⌜ Ready h (clashIn (now table)) (now s) ⌝ }
-    ensures { λ r. ⌜ r ≡ answer (tableOf h (clashIn (now (table .entry)))) (stateOf (contents (now (s .entry)))) (Fetch j k p) ⌝ }
+pub fn judge_fetch(s: &[u8], h: Head, j: u8, k: u8, p: u8) -> u8
+    requires { ⌜ Ready h (now s) ⌝ }
+    ensures { λ r. ⌜ r ≡ answerOn h noClash (now (s .entry)) (Fetch j k p) ⌝ }
 {
     if guard::names::no_peer(h, j) {
         return 6;
@@ -62,9 +60,9 @@ pub fn judge_fetch(table: &[u8], s: &[u8], h: Head, j: u8, k: u8, p: u8) -> u8
     0
 }
 
-pub fn judge_send_hash(table: &[u8], s: &[u8], h: Head, j: u8, p: u8, board: u64) -> u8
-    requires { ⌜ Ready h (clashIn (now table)) (now s) × (board ≡ boardBy (tableOf h (clashIn (now table))) (stateOf (contents (now s))) j p) ⌝ }
-    ensures { λ r. ⌜ r ≡ answer (tableOf h (clashIn (now (table .entry)))) (stateOf (contents (now (s .entry)))) (SendHash j p) ⌝ }
+pub fn judge_send_hash(s: &[u8], h: Head, j: u8, p: u8, board: u64) -> u8
+    requires { ⌜ Ready h (now s) × (board ≡ boardOn h (now s) j p) ⌝ }
+    ensures { λ r. ⌜ r ≡ answerOn h noClash (now (s .entry)) (SendHash j p) ⌝ }
 {
     if guard::names::no_peer(h, j) {
         return 6;
@@ -81,15 +79,15 @@ pub fn judge_send_hash(table: &[u8], s: &[u8], h: Head, j: u8, p: u8, board: u64
     if guard::periods::not_closed(s, j, p) {
         return 9;
     }
-    if crate::own::hash_full(table, s, h, j, p, board) {
+    if crate::own::hash_full(s, h, j, p, board) {
         return 13;
     }
     0
 }
 
-pub fn judge_hear(table: &[u8], s: &[u8], h: Head, j: u8, e: u8) -> u8
-    requires { ⌜ Ready h (clashIn (now table)) (now s) ⌝ }
-    ensures { λ r. ⌜ r ≡ answer (tableOf h (clashIn (now (table .entry)))) (stateOf (contents (now (s .entry)))) (Hear j e) ⌝ }
+pub fn judge_hear(s: &[u8], h: Head, j: u8, e: u8) -> u8
+    requires { ⌜ Ready h (now s) ⌝ }
+    ensures { λ r. ⌜ r ≡ answerOn h noClash (now (s .entry)) (Hear j e) ⌝ }
 {
     if guard::names::no_peer(h, j) {
         return 6;
@@ -109,9 +107,9 @@ pub fn judge_hear(table: &[u8], s: &[u8], h: Head, j: u8, e: u8) -> u8
     0
 }
 
-pub fn judge_back(table: &[u8], s: &[u8], h: Head, j: u8, c: u8, board: u64) -> u8
-    requires { ⌜ Ready h (clashIn (now table)) (now s) × (c ≡ contents (now s) .number (NextOf j)) × (board ≡ boardBy (tableOf h (clashIn (now table))) (stateOf (contents (now s))) j (contents (now s) .number (NextOf j))) ⌝ }
-    ensures { λ r. ⌜ r ≡ answer (tableOf h (clashIn (now (table .entry)))) (stateOf (contents (now (s .entry)))) (Back j) ⌝ }
+pub fn judge_back(s: &[u8], h: Head, j: u8, c: u8, board: u64) -> u8
+    requires { ⌜ Ready h (now s) × (c ≡ contents (now s) .number (NextOf j)) × (board ≡ boardOn h (now s) j (contents (now s) .number (NextOf j))) ⌝ }
+    ensures { λ r. ⌜ r ≡ answerOn h noClash (now (s .entry)) (Back j) ⌝ }
 {
     if guard::names::no_peer(h, j) {
         return 6;
@@ -125,23 +123,23 @@ pub fn judge_back(table: &[u8], s: &[u8], h: Head, j: u8, c: u8, board: u64) -> 
     if guard::periods::all_backed(s, j) {
         return 9;
     }
-    if crate::own::few_own_hearers(table, s, h, j, c, board) {
+    if crate::own::few_own_hearers(s, h, j, c, board) {
         return 12;
     }
-    if crate::own::backing_full(table, s, h, j, c, board) {
+    if crate::own::backing_full(s, h, j, c, board) {
         return 13;
     }
     0
 }
 
-pub fn judge_publish(table: &[u8], s: &[u8], h: Head, e: u8) -> u8
-    requires { ⌜ Ready h (clashIn (now table)) (now s) ⌝ }
-    ensures { λ r. ⌜ r ≡ answer (tableOf h (clashIn (now (table .entry)))) (stateOf (contents (now (s .entry)))) (Publish e) ⌝ }
+pub fn judge_publish(s: &[u8], h: Head, e: u8) -> u8
+    requires { ⌜ Ready h (now s) ⌝ }
+    ensures { λ r. ⌜ r ≡ answerOn h noClash (now (s .entry)) (Publish e) ⌝ }
 {
     if guard::bag::not_backing(s, e) {
         return 10;
     }
-    if guard::boards::few_backers_of(table, s, h, e) {
+    if guard::boards::few_backers_of(s, h, e) {
         return 12;
     }
     if guard::boards::no_room_for_board(s, e) {

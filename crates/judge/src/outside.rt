@@ -1,17 +1,14 @@
 // Steps 13 to 18: what the outsider does, and peers that go down and come up. For each its refusals, in the order in which they are judged.
 ghost use mathlib.Core.Path.{_≡_};
-ghost use Rattle.ballot.specs.Clash.{clashIn};
-ghost use Rattle.rules.specs.Rules.{answer};
 ghost use Rattle.rules.specs.declared.Step.the-variants.{FalseSignature, FalseShare, FalseHash, FalseBacking, Down, Up};
-ghost use Rattle.state.specs.Contents.{contents};
-ghost use Rattle.view.specs.View.{tableOf, stateOf};
+ghost use Rattle.view.specs.View.{noClash, answerOn};
 ghost use Rattle.view.specs.Ready.{Ready};
 use rules::Entry;
 use view::Head;
 
-pub fn judge_false_signature(table: &[u8], s: &[u8], h: Head, j: u8, p: u8, x: u8) -> u8
-    requires { ⌜ Ready h (clashIn (now table)) (now s) ⌝ }
-    ensures { λ r. ⌜ r ≡ answer (tableOf h (clashIn (now (table .entry)))) (stateOf (contents (now (s .entry)))) (FalseSignature j p x) ⌝ }
+pub fn judge_false_signature(s: &[u8], h: Head, j: u8, p: u8, x: u8) -> u8
+    requires { ⌜ Ready h (now s) ⌝ }
+    ensures { λ r. ⌜ r ≡ answerOn h noClash (now (s .entry)) (FalseSignature j p x) ⌝ }
 {
     if guard::names::no_peer(h, j) {
         return 6;
@@ -31,9 +28,9 @@ pub fn judge_false_signature(table: &[u8], s: &[u8], h: Head, j: u8, p: u8, x: u
     0
 }
 
-pub fn judge_false_share(table: &[u8], s: &[u8], h: Head, j: u8, p: u8, x: u8) -> u8
-    requires { ⌜ Ready h (clashIn (now table)) (now s) ⌝ }
-    ensures { λ r. ⌜ r ≡ answer (tableOf h (clashIn (now (table .entry)))) (stateOf (contents (now (s .entry)))) (FalseShare j p x) ⌝ }
+pub fn judge_false_share(s: &[u8], h: Head, j: u8, p: u8, x: u8) -> u8
+    requires { ⌜ Ready h (now s) ⌝ }
+    ensures { λ r. ⌜ r ≡ answerOn h noClash (now (s .entry)) (FalseShare j p x) ⌝ }
 {
     if guard::names::no_peer(h, j) {
         return 6;
@@ -53,9 +50,9 @@ pub fn judge_false_share(table: &[u8], s: &[u8], h: Head, j: u8, p: u8, x: u8) -
     0
 }
 
-pub fn judge_false_hash(table: &[u8], s: &[u8], h: Head, j: u8, p: u8, board: u64) -> u8
-    requires { ⌜ Ready h (clashIn (now table)) (now s) ⌝ }
-    ensures { λ r. ⌜ r ≡ answer (tableOf h (clashIn (now (table .entry)))) (stateOf (contents (now (s .entry)))) (FalseHash j p board) ⌝ }
+pub fn judge_false_hash(s: &[u8], h: Head, j: u8, p: u8, board: u64) -> u8
+    requires { ⌜ Ready h (now s) ⌝ }
+    ensures { λ r. ⌜ r ≡ answerOn h noClash (now (s .entry)) (FalseHash j p board) ⌝ }
 {
     if guard::names::no_peer(h, j) {
         return 6;
@@ -78,9 +75,9 @@ pub fn judge_false_hash(table: &[u8], s: &[u8], h: Head, j: u8, p: u8, board: u6
     0
 }
 
-pub fn judge_false_backing(table: &[u8], s: &[u8], h: Head, j: u8, p: u8, board: u64) -> u8
-    requires { ⌜ Ready h (clashIn (now table)) (now s) ⌝ }
-    ensures { λ r. ⌜ r ≡ answer (tableOf h (clashIn (now (table .entry)))) (stateOf (contents (now (s .entry)))) (FalseBacking j p board) ⌝ }
+pub fn judge_false_backing(s: &[u8], h: Head, j: u8, p: u8, board: u64) -> u8
+    requires { ⌜ Ready h (now s) ⌝ }
+    ensures { λ r. ⌜ r ≡ answerOn h noClash (now (s .entry)) (FalseBacking j p board) ⌝ }
 {
     if guard::names::no_peer(h, j) {
         return 6;
@@ -103,9 +100,9 @@ pub fn judge_false_backing(table: &[u8], s: &[u8], h: Head, j: u8, p: u8, board:
     0
 }
 
-pub fn judge_down(table: &[u8], s: &[u8], h: Head, j: u8) -> u8
-    requires { ⌜ Ready h (clashIn (now table)) (now s) ⌝ }
-    ensures { λ r. ⌜ r ≡ answer (tableOf h (clashIn (now (table .entry)))) (stateOf (contents (now (s .entry)))) (Down j) ⌝ }
+pub fn judge_down(s: &[u8], h: Head, j: u8) -> u8
+    requires { ⌜ Ready h (now s) ⌝ }
+    ensures { λ r. ⌜ r ≡ answerOn h noClash (now (s .entry)) (Down j) ⌝ }
 {
     if guard::names::no_peer(h, j) {
         return 6;
@@ -116,9 +113,9 @@ pub fn judge_down(table: &[u8], s: &[u8], h: Head, j: u8) -> u8
     0
 }
 
-pub fn judge_up(table: &[u8], s: &[u8], h: Head, j: u8) -> u8
-    requires { ⌜ Ready h (clashIn (now table)) (now s) ⌝ }
-    ensures { λ r. ⌜ r ≡ answer (tableOf h (clashIn (now (table .entry)))) (stateOf (contents (now (s .entry)))) (Up j) ⌝ }
+pub fn judge_up(s: &[u8], h: Head, j: u8) -> u8
+    requires { ⌜ Ready h (now s) ⌝ }
+    ensures { λ r. ⌜ r ≡ answerOn h noClash (now (s .entry)) (Up j) ⌝ }
 {
     if guard::names::no_peer(h, j) {
         return 6;

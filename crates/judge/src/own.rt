@@ -3,37 +3,35 @@ ghost use mathlib.Core.Path.{_≡_};
 ghost use mathlib.Core.Bool.{not};
 ghost use lib.Dec.{leb};
 ghost use Rattle.base.specs.Weight.{weight, ones};
-ghost use Rattle.ballot.specs.Clash.{clashIn};
 ghost use Rattle.rules.specs.declared.Entry.the-variants.{Hash, Backing};
 ghost use Rattle.rules.specs.Bag.{isFull};
-ghost use Rattle.rules.specs.Rules.{boardBy};
 ghost use Rattle.state.specs.declared.Number.the-variants.{NextOf};
 ghost use Rattle.state.specs.Contents.{contents};
-ghost use Rattle.view.specs.View.{tableOf, stateOf};
+ghost use Rattle.view.specs.View.{boardOn, stateOf};
 ghost use Rattle.view.specs.Ready.{Ready};
 use rules::Entry;
 use view::Head;
 
 // There is no room for peer j's hash of period p.
-pub fn hash_full(table: &[u8], s: &[u8], h: Head, j: u8, p: u8, board: u64) -> bool
-    requires { ⌜ Ready h (clashIn (now table)) (now s) × (board ≡ boardBy (tableOf h (clashIn (now table))) (stateOf (contents (now s))) j p) ⌝ }
-    ensures { λ r. ⌜ r ≡ isFull (Hash j p (boardBy (tableOf h (clashIn (now (table .entry)))) (stateOf (contents (now (s .entry)))) j p)) (contents (now (s .entry)) .bag) ⌝ }
+pub fn hash_full(s: &[u8], h: Head, j: u8, p: u8, board: u64) -> bool
+    requires { ⌜ Ready h (now s) × (board ≡ boardOn h (now s) j p) ⌝ }
+    ensures { λ r. ⌜ r ≡ isFull (Hash j p (boardOn h (now (s .entry)) j p)) (contents (now (s .entry)) .bag) ⌝ }
 {
     guard::bag::is_full(s, Entry::Hash(j, p, board))
 }
 
 // Fewer than t signers among the hashes that peer j heard have its board of period c.
-pub fn few_own_hearers(table: &[u8], s: &[u8], h: Head, j: u8, c: u8, board: u64) -> bool
-    requires { ⌜ Ready h (clashIn (now table)) (now s) × (c ≡ contents (now s) .number (NextOf j)) × (board ≡ boardBy (tableOf h (clashIn (now table))) (stateOf (contents (now s))) j (contents (now s) .number (NextOf j))) ⌝ }
-    ensures { λ r. ⌜ r ≡ not (leb (h .t) (weight ones (h .n) (λ k. stateOf (contents (now (s .entry))) .heard j k (contents (now (s .entry)) .number (NextOf j)) (boardBy (tableOf h (clashIn (now (table .entry)))) (stateOf (contents (now (s .entry)))) j (contents (now (s .entry)) .number (NextOf j)))))) ⌝ }
+pub fn few_own_hearers(s: &[u8], h: Head, j: u8, c: u8, board: u64) -> bool
+    requires { ⌜ Ready h (now s) × (c ≡ contents (now s) .number (NextOf j)) × (board ≡ boardOn h (now s) j (contents (now s) .number (NextOf j))) ⌝ }
+    ensures { λ r. ⌜ r ≡ not (leb (h .t) (weight ones (h .n) (λ k. stateOf (contents (now (s .entry))) .heard j k (contents (now (s .entry)) .number (NextOf j)) (boardOn h (now (s .entry)) j (contents (now (s .entry)) .number (NextOf j)))))) ⌝ }
 {
-    guard::support::few_hearers(table, s, h, j, c, board)
+    guard::support::few_hearers(s, h, j, c, board)
 }
 
 // There is no room for peer j's backing of period c.
-pub fn backing_full(table: &[u8], s: &[u8], h: Head, j: u8, c: u8, board: u64) -> bool
-    requires { ⌜ Ready h (clashIn (now table)) (now s) × (c ≡ contents (now s) .number (NextOf j)) × (board ≡ boardBy (tableOf h (clashIn (now table))) (stateOf (contents (now s))) j (contents (now s) .number (NextOf j))) ⌝ }
-    ensures { λ r. ⌜ r ≡ isFull (Backing j (contents (now (s .entry)) .number (NextOf j)) (boardBy (tableOf h (clashIn (now (table .entry)))) (stateOf (contents (now (s .entry)))) j (contents (now (s .entry)) .number (NextOf j)))) (contents (now (s .entry)) .bag) ⌝ }
+pub fn backing_full(s: &[u8], h: Head, j: u8, c: u8, board: u64) -> bool
+    requires { ⌜ Ready h (now s) × (c ≡ contents (now s) .number (NextOf j)) × (board ≡ boardOn h (now s) j (contents (now s) .number (NextOf j))) ⌝ }
+    ensures { λ r. ⌜ r ≡ isFull (Backing j (contents (now (s .entry)) .number (NextOf j)) (boardOn h (now (s .entry)) j (contents (now (s .entry)) .number (NextOf j)))) (contents (now (s .entry)) .bag) ⌝ }
 {
     guard::bag::is_full(s, Entry::Backing(j, c, board))
 }

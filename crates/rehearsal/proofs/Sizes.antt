@@ -98,7 +98,7 @@ module _ (input : List ℕ) (T : Taken input) where
   unfolding lastState
   shown-most =
       let R = state-ready input T (stepCount input) in
-      let fits = good-fits (headOf table) (clashIn table) (R .room) (contents (stateAt input (stepCount input))) (R .good) in
+      let fits = good-fits (headOf table) (clashIn table) (R .room) (contents (stateAt input (stepCount input))) (R .good (clashIn table)) in
       state-most (headOf table) (R .room .peers) (R .room .periods) (R .room .items) (contents (stateAt input (stepCount input))) (fits .counted) (λ e l. omega (arith, fits .entry e l .period))
 
   first-line-most : length (headLine (peersOf table) (thresholdOf table) (honestCount table)) ≤ 32

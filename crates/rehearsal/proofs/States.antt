@@ -6,7 +6,6 @@ use native.Mathlib.Omega.{arith}
 use mathlib.Core.List.{List}
 use mathlib.Core.Path.{_≡_, refl, sym, ap, ap₂, subst, subst₂, _∙_}
 use lib.ListN.{length}
-use Rattle.ballot.specs.Clash.{clashIn}
 use Rattle.state.specs.Layout.{size}
 use Rattle.view.specs.declared.Head.{Head}
 use Rattle.view.specs.Ready.{Ready}
@@ -25,9 +24,9 @@ module _ (input : List ℕ) (T : Taken input) where
   abbrev table : List ℕ
   table = tableIn input
 
-  pub state-ready : (k : ℕ) → Ready (headOf table) (clashIn table) (stateAt input k)
+  pub state-ready : (k : ℕ) → Ready (headOf table) (stateAt input k)
   unfolding stateAt
-  state-ready zero = fresh-ready (headOf table) (clashIn table) (room-of table (sym (T .table)) refl)
+  state-ready zero = fresh-ready (headOf table) (room-of table (sym (T .table)) refl)
   state-ready (suc k) = step-leaves table (T .table) (stateAt input k) (state-ready k) (callAt input k) .ready
 
   pub same-long : {s t : List ℕ} (j k : ℕ) → s ≡ stateAt input j → t ≡ stateAt input k → length s ≡ length t
@@ -38,10 +37,8 @@ unfolding stepCount
 few-steps T e l = omega (arith, T .few, e, l)
 
 module _ {input table : List ℕ} {h : Head} {rows : List ℕ} (M : Made input table h rows) {s : List ℕ} (k : ℕ) (now : s ≡ stateAt input k) where
-  pub ready-now : Ready h (clashIn table) s
-  ready-now =
-      subst (λ t. Ready h (clashIn t) s) (sym (M .cut))
-      (subst₂ (λ g u. Ready g (clashIn (tableIn input)) u) (sym (M .prepared .head ∙ ap headOf (M .cut))) (sym now) (state-ready input (M .taken) k))
+  pub ready-now : Ready h s
+  ready-now = subst₂ (λ g u. Ready g u) (sym (M .prepared .head ∙ ap headOf (M .cut))) (sym now) (state-ready input (M .taken) k)
 
   -- one step, and its line
   pub one-ran : {step was is t : List ℕ} {at to a : ℕ} → step ≡ callAt input k → (a ≡ stepAnswer table s step) × (t ≡ stepBytes table s step) → Wrote was at (stepLine (k + 1) a) is to → RanOne input k t was at is to

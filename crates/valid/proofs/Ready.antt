@@ -19,7 +19,7 @@ use Rattle.state.specs.declared.Number.the-variants.{DownOf}
 use Rattle.state.specs.Layout.{size}
 use Rattle.state.specs.Contents.{contents}
 use Rattle.view.specs.declared.Head.{Head}
-use Rattle.view.specs.View.{tableOf, stateOf}
+use Rattle.view.specs.View.{noClash, tableOf, stateOf}
 use Rattle.valid.specs.StateOk.{factOk, factsOk, peersOk, bagOk, stateOk}
 use Rattle.view.specs.Ready.{Room, Ready}
 use Rattle.view.proofs.Heard.{told-number, told-in, number-told}
@@ -27,11 +27,11 @@ use Rattle.valid.proofs.Facts.{fact-of-ok, ok-of-facts}
 use Rattle.valid.proofs.Peers.{Numbers, peers-of-ok, ok-of-peers}
 use Rattle.valid.proofs.Bag.{canon-of-ok, bag-of-ok, ok-of-bag}
 
-module _ (h : Head) (clash : ℕ → ℕ → Bool) (s : List ℕ) where
+module _ (h : Head) (s : List ℕ) where
   -- from the test
 
-  sets-of-ok : factsOk h s ≡ true → SetsIn (tableOf h clash) (stateOf (contents s) .posted) (stateOf (contents s) .signed) (stateOf (contents s) .shared) (stateOf (contents s) .receipted) (stateOf (contents s) .held) (stateOf (contents s) .db)
-  sets-of-ok ok = record {
+  sets-of-ok : (clash : ℕ → ℕ → Bool) → factsOk h s ≡ true → SetsIn (tableOf h clash) (stateOf (contents s) .posted) (stateOf (contents s) .signed) (stateOf (contents s) .shared) (stateOf (contents s) .receipted) (stateOf (contents s) .held) (stateOf (contents s) .db)
+  sets-of-ok clash ok = record {
     posts = λ x e. ltb-true _ _ (fact-of-ok h s ok (Posted x) e);
     signs = λ k p x e. let f = fact-of-ok h s ok (Signed k p x) e in search (and-l, and-r, ltb-true, between-true);
     shares = λ k p x e. let f = fact-of-ok h s ok (Shared k p x) e in search (and-l, and-r, ltb-true, between-true);
@@ -40,12 +40,12 @@ module _ (h : Head) (clash : ℕ → ℕ → Bool) (s : List ℕ) where
     knows = λ j p x k e. let f = fact-of-ok h s ok (Known j p x k) e in search (and-l, and-r, ltb-true, between-true);
   }
 
-  heard-of-ok : factsOk h s ≡ true → HeardIn (tableOf h clash) (stateOf (contents s) .heard) (contents s .bag)
-  heard-of-ok ok j k p B t =
+  heard-of-ok : (clash : ℕ → ℕ → Bool) → factsOk h s ≡ true → HeardIn (tableOf h clash) (stateOf (contents s) .heard) (contents s .bag)
+  heard-of-ok clash ok j k p B t =
       let e = told-number (λ a. contents s .has (Heard j a)) 0 (contents s .bag) k p B t in
       (between-true 1 j (h .n) (and-l (between 1 j (h .n)) _ (fact-of-ok h s ok (Heard j (0 + e .0)) (e .1))), told-in (λ a. contents s .has (Heard j a)) 0 (contents s .bag) k p B t)
 
-  pub ready-of-ok : Room h → Bytes s → stateOk h s ≡ true → Ready h clash s
+  pub ready-of-ok : Room h → Bytes s → stateOk h s ≡ true → Ready h s
   unfolding stateOk
   ready-of-ok room bytes ok =
       let long = eqb-true (length s) size (and-l (eqb (length s) size) _ ok) in
@@ -56,14 +56,14 @@ module _ (h : Head) (clash : ℕ → ℕ → Bool) (s : List ℕ) where
       let facts = and-r (peersOk h s) _ r2 in
       record {
         room = room;
-        canon = canon-of-ok h clash s long bytes bag;
-        good = record {
+        canon = canon-of-ok h noClash s long bytes bag;
+        good = λ clash. record {
           valid = record {
-            sets = sets-of-ok facts;
+            sets = sets-of-ok clash facts;
             counters = record { opens = λ j. N j .open-at-most; behind = λ j. N j .next-at-most; peers = λ j q. N j .has-open q };
             down = λ j e. N j .is-down (omega (arith, eqb-true (contents s .number (DownOf j)) 1 e));
             bag = bag-of-ok h clash s bag;
-            heard = heard-of-ok facts;
+            heard = heard-of-ok clash facts;
           };
           sound = record {
             hears = λ j e q. and-r (between 1 j (h .n)) _ (fact-of-ok h s facts (Heard j e) q);
@@ -74,9 +74,9 @@ module _ (h : Head) (clash : ℕ → ℕ → Bool) (s : List ℕ) where
 
   -- and to it
 
-  module _ (R : Ready h clash s) where
-    abbrev W : Valid (tableOf h clash) (stateOf (contents s))
-    W = R .good .valid
+  module _ (R : Ready h s) where
+    abbrev W : Valid (tableOf h noClash) (stateOf (contents s))
+    W = R .good noClash .valid
 
     is-peer : (k : ℕ) → (1 ≤ k) × (k ≤ h .n) → between 1 k (h .n) ≡ true
     is-peer k q = and-i _ _ (le-leb 1 k (q .0)) (le-leb k (h .n) (q .1))
@@ -90,7 +90,7 @@ module _ (h : Head) (clash : ℕ → ℕ → Bool) (s : List ℕ) where
     hearer : (j e : ℕ) → contents s .has (Heard j e) ≡ true → (1 ≤ j) × (j ≤ h .n)
     hearer j e q =
         let a = entryAt (contents s .bag) e in
-        W .heard j (signerOf a) (periodOf a) (boardOf a) (number-told (λ a. contents s .has (Heard j a)) 0 e (contents s .bag) (subst (λ (x : ℕ). contents s .has (Heard j x) ≡ true) {x = e} {y = 0 + e} (omega arith) q) (R .good .sound .hears j e q)) .0
+        W .heard j (signerOf a) (periodOf a) (boardOf a) (number-told (λ a. contents s .has (Heard j a)) 0 e (contents s .bag) (subst (λ (x : ℕ). contents s .has (Heard j x) ≡ true) {x = e} {y = 0 + e} (omega arith) q) (R .good noClash .sound .hears j e q)) .0
 
     of-table : (f : Fact) → contents s .has f ≡ true → factOk h (contents s .bag) f ≡ true
     of-table (Posted i) e = lt-ltb i (h .items) (W .sets .posts i e)
@@ -99,17 +99,17 @@ module _ (h : Head) (clash : ℕ → ℕ → Bool) (s : List ℕ) where
     of-table (Receipted p i) e = is-cell p i (W .sets .receipts p i e)
     of-table (Held j p i) e = is-spot j p i (W .sets .holds j p i e)
     of-table (Known j p i k) e = let q = W .sets .knows j p i k e in and-i _ _ (is-peer j (q .0 .0)) (is-spot k p i (q .1, q .0 .1))
-    of-table (Heard j n) e = and-i _ _ (is-peer j (hearer j n e)) (R .good .sound .hears j n e)
+    of-table (Heard j n) e = and-i _ _ (is-peer j (hearer j n e)) (R .good noClash .sound .hears j n e)
 
     numbers : (j : ℕ) → Numbers h (contents s) j
     numbers j = record {
       open-at-most = W .counters .opens j;
       next-at-most = W .counters .behind j;
-      flag = R .good .sound .flags j;
+      flag = R .good noClash .sound .flags j;
       has-open = W .counters .peers j;
-      is-down = λ q. W .down j (eq-eqb (contents s .number (DownOf j)) 1 (omega (arith, R .good .sound .flags j)));
+      is-down = λ q. W .down j (eq-eqb (contents s .number (DownOf j)) 1 (omega (arith, R .good noClash .sound .flags j)));
     }
 
     pub ok-of-ready : stateOk h s ≡ true
     unfolding stateOk
-    ok-of-ready = and-i _ _ (eq-eqb (length s) size (R .canon .long)) (and-i _ _ (ok-of-bag h clash s (R .canon) (W .bag)) (and-i _ _ (ok-of-peers h s numbers) (ok-of-facts h s of-table)))
+    ok-of-ready = and-i _ _ (eq-eqb (length s) size (R .canon .long)) (and-i _ _ (ok-of-bag h noClash s (R .canon) (W .bag)) (and-i _ _ (ok-of-peers h s numbers) (ok-of-facts h s of-table)))

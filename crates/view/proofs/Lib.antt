@@ -1,4 +1,5 @@
 pub mod Told
 pub mod Meets
 pub mod Keeps
+pub mod Whatever
 pub mod Heard

@@ -14,7 +14,8 @@ pub record Room (h : Head) : Type 0 where
   pub periods : h .periods ≤ periods
   pub items : h .items ≤ items
 
-pub record Ready (h : Head) (clash : ℕ → ℕ → Bool) (s : List ℕ) : Type 0 where
+-- the bytes are a state of the table, whatever clashes in it
+pub record Ready (h : Head) (s : List ℕ) : Type 0 where
   pub room : Room h
   pub canon : Canon s
-  pub good : Good (tableOf h clash) (contents s)
+  pub good : (clash : ℕ → ℕ → Bool) → Good (tableOf h clash) (contents s)

@@ -7,12 +7,14 @@ use Rattle.base.specs.Bits.{bit}
 use Rattle.base.specs.Weight.{ones}
 use Rattle.rules.specs.declared.Entry.{Entry}
 use Rattle.rules.specs.declared.Entry.the-variants.{Hash}
+use Rattle.rules.specs.declared.Step.{Step}
 use Rattle.rules.specs.Table.{Table}
 use Rattle.rules.specs.Bag.{sameEntry}
 use Rattle.rules.specs.State.{State}
+use Rattle.rules.specs.Rules.{answer, boardBy}
 use Rattle.state.specs.declared.Fact.the-variants.{Posted, Signed, Shared, Receipted, Held, Known, Heard}
 use Rattle.state.specs.declared.Number.the-variants.{OpenOf, NextOf, DownOf}
-use Rattle.state.specs.Contents.{Contents}
+use Rattle.state.specs.Contents.{Contents, contents}
 use Rattle.view.specs.declared.Head.{Head}
 
 -- peer k is in a set of peers, whose bit k - 1 it is
@@ -23,6 +25,14 @@ member set (suc k) = bit set k
 -- the table of the rules: every weight is 1
 abbrev pub tableOf : Head → (ℕ → ℕ → Bool) → Table
 tableOf h clash = record { n = h .n; t = h .t; honest = member (h .honest); weightOf = ones; periods = h .periods; items = h .items; clash = clash }
+
+-- of most steps the rules do not ask what clashes: they are judged as if nothing did
+abbrev pub noClash : ℕ → ℕ → Bool
+noClash x y = false
+
+-- hand asks it of one item, and that item's row is enough: the items that clash with it, as a set
+abbrev pub inRow : ℕ → ℕ → ℕ → Bool
+inRow row x y = bit row y
 
 -- a heard entry number is that of the hash of signer k, period p and board B; the bag's first entry has number i
 unfoldable pub told : (ℕ → Bool) → ℕ → List Entry → ℕ → ℕ → ℕ → Bool
@@ -44,3 +54,11 @@ stateOf c = record {
   current = λ j. c .number (OpenOf j);
   toBack = λ j. c .number (NextOf j);
 }
+
+-- the answer of the rules to a step on what the bytes say
+abbrev pub answerOn : Head → (ℕ → ℕ → Bool) → List ℕ → Step → ℕ
+answerOn h clash s st = answer (tableOf h clash) (stateOf (contents s)) st
+
+-- peer j's board of period p, by what the bytes say
+abbrev pub boardOn : Head → List ℕ → ℕ → ℕ → ℕ
+boardOn h s j p = boardBy (tableOf h noClash) (stateOf (contents s)) j p

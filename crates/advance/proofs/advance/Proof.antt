@@ -1,6 +1,6 @@
--- Each arm is the step that the match found, by `of-step`. A paragraph for each arm before its call, then one for each after it.
+-- Each arm is the step that the match found, by `of-step`; a hand, with the row of its item, by `of-hand`. A paragraph for each arm before its call, then one for each after it.
 use borrow.Author.Needs.{needs}
-use Rattle.advance.proofs.Whole.{of-step}
+use Rattle.advance.proofs.Clashing.{of-step, of-hand}
 use Rattle.advance.proofs.advance.Statement.{statement}
 use Rattle.advance.proofs.advance.Tie as tie
 
@@ -125,7 +125,7 @@ same-length-2 : tie.Need-same-length-2
 same-length-2 c = search needs
 
 returns-2 : tie.Need-returns-2
-returns-2 c = search of-step
+returns-2 c = search of-hand
 
 same-length-3 : tie.Need-same-length-3
 same-length-3 c = search needs

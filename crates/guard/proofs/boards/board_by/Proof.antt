@@ -1,5 +1,4 @@
 -- By `board-found`.
-use mathlib.Core.Path.{_∙_}
 use Rattle.guard.proofs.Sheets.{board-found}
 use borrow.Author.Needs.{needs}
 use Rattle.guard.proofs.boards.board_by.Statement.{statement}
@@ -9,7 +8,7 @@ board-of-requires : tie.Need-board-of-requires
 board-of-requires c κs = search needs
 
 returns : tie.Need-returns
-returns c = c .board-of .ensures ∙ board-found _ _ _ (c .before .before .before .pre) _ _
+returns c = search board-found
 
 pub board-by-spec : {M : Type 1} → statement M
 board-by-spec = tie.close (tie.spec board-of-requires returns)

@@ -1,5 +1,4 @@
 -- By `clash-meets`.
-use mathlib.Core.Path.{_∙_}
 use Rattle.guard.proofs.Rows.{clash-meets}
 use borrow.Author.Needs.{needs}
 use Rattle.guard.proofs.clash.holds_clash.Statement.{statement}
@@ -9,7 +8,7 @@ ever-holds-requires : tie.Need-ever-holds-requires
 ever-holds-requires c κs = search needs
 
 returns : tie.Need-returns
-returns c = let pre = c .before .before .before .pre in c .ever-holds .ensures ∙ clash-meets _ _ _ (pre .0) (pre .2) _ _ _ (pre .1)
+returns c = search clash-meets
 
 pub holds-clash-spec : {M : Type 1} → statement M
 holds-clash-spec = tie.close (tie.spec ever-holds-requires returns)

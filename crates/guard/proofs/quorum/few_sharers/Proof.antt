@@ -1,6 +1,5 @@
--- By `few-of` and `sharers-weigh`.
-use mathlib.Core.Path.{_∙_}
-use Rattle.guard.proofs.Counts.{few-of, sharers-weigh}
+-- By `sharers-few`.
+use Rattle.guard.proofs.Counts.{sharers-few}
 use borrow.Author.Needs.{needs}
 use Rattle.guard.proofs.quorum.few_sharers.Statement.{statement}
 use Rattle.guard.proofs.quorum.few_sharers.Tie as tie
@@ -12,7 +11,7 @@ wide-requires : tie.Need-wide-requires
 wide-requires c κs = search needs
 
 returns : tie.Need-returns
-returns c = few-of _ _ _ _ (c .before .sharer-count .ensures ∙ sharers-weigh _ _ _ (c .before .before .before .before .pre) _ _) (c .wide .ensures)
+returns c = let ready = c .before .before .before .pre in sharers-few _ _ ready _ _ (c .before .sharer-count .ensures) (c .wide .ensures)
 
 pub few-sharers-spec : {M : Type 1} → statement M
 few-sharers-spec = tie.close (tie.spec sharer-count-requires wide-requires returns)

@@ -1,5 +1,5 @@
--- By `fewer-weighed` and `backers-weigh`.
-use Rattle.guard.proofs.Supporters.{fewer-weighed, backers-weigh}
+-- By `backers-few`.
+use Rattle.guard.proofs.Supporters.{backers-few}
 use borrow.Author.Needs.{needs}
 use Rattle.guard.proofs.support.few_backers.Statement.{statement}
 use Rattle.guard.proofs.support.few_backers.Tie as tie
@@ -11,7 +11,7 @@ fewer-requires : tie.Need-fewer-requires
 fewer-requires c κs = search needs
 
 returns : tie.Need-returns
-returns c = fewer-weighed _ _ _ _ (c .fewer .ensures) (backers-weigh _ _ _ (c .before .before .before .before .pre) _ _ _ (c .before .backers .ensures))
+returns c = let ready = c .before .before .before .pre in backers-few _ _ ready _ _ _ (c .before .backers .ensures) (c .fewer .ensures)
 
 pub few-backers-spec : {M : Type 1} → statement M
 few-backers-spec = tie.close (tie.spec backers-requires fewer-requires returns)

@@ -1,5 +1,5 @@
--- By `fewer-weighed` and `hearers-weigh`.
-use Rattle.guard.proofs.Supporters.{fewer-weighed, hearers-weigh}
+-- By `hearers-few`.
+use Rattle.guard.proofs.Supporters.{hearers-few}
 use borrow.Author.Needs.{needs}
 use Rattle.guard.proofs.support.few_hearers.Statement.{statement}
 use Rattle.guard.proofs.support.few_hearers.Tie as tie
@@ -11,7 +11,7 @@ fewer-requires : tie.Need-fewer-requires
 fewer-requires c κs = search needs
 
 returns : tie.Need-returns
-returns c = fewer-weighed _ _ _ _ (c .fewer .ensures) (hearers-weigh _ _ _ (c .before .before .before .before .pre) _ _ _ _ (c .before .hearers .ensures))
+returns c = let ready = c .before .before .before .pre in hearers-few _ _ ready _ _ _ _ (c .before .hearers .ensures) (c .fewer .ensures)
 
 pub few-hearers-spec : {M : Type 1} → statement M
 few-hearers-spec = tie.close (tie.spec hearers-requires fewer-requires returns)

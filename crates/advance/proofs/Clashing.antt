@@ -1,0 +1,114 @@
+-- What clashes is asked of a hand alone, and there its item's row is enough: so steps that see no table do what the rules say of it.
+use Prim.Native.Nat.{ℕ, _<_, _≤_}
+use native.Mathlib.Omega.{arith}
+use mathlib.Core.Bool.{Bool, true, false, _&&_}
+use mathlib.Core.List.{List}
+use mathlib.Core.Path.{_≡_, refl, sym, ap, subst, _∙_}
+use Rattle.base.specs.Below.{any}
+use Rattle.base.specs.Bits.{bit}
+use Rattle.base.proofs.Below.{any-ext}
+use Rattle.base.proofs.Bits.{bit-pack}
+use Rattle.base.proofs.Truth.{split}
+use Rattle.ballot.specs.Header.{itemsOf}
+use Rattle.ballot.specs.Clash.{clashIn, maskWidth, clashMask}
+use Rattle.rules.specs.declared.Step.{Step}
+use Rattle.rules.specs.declared.Step.the-variants.{Post, Hand, Sign, Take, Share, Receipt, Close, Fetch, SendHash, Hear, Back, Publish, FalseSignature, FalseShare, FalseHash, FalseBacking, Down, Up}
+use Rattle.rules.specs.Table.{clashing}
+use Rattle.rules.specs.Rules.{rule, answer, boardFrom}
+use Rattle.state.specs.Contents.{Contents, contents}
+use Rattle.state.specs.Encode.{encode}
+use Rattle.view.specs.declared.Head.{Head}
+use Rattle.view.specs.View.{noClash, inRow, tableOf, stateOf, answerOn}
+use Rattle.view.specs.Effect.{effectOn}
+use Rattle.view.specs.Ready.{Ready}
+use Rattle.steps.specs.Stepped.{Stepped}
+
+-- the step is a hand
+abbrev pub isHand : Step → Bool
+isHand (Post x) = false
+isHand (Hand j x) = true
+isHand (Sign j x) = false
+isHand (Take j k p x) = false
+isHand (Share j x) = false
+isHand (Receipt p x) = false
+isHand (Close j) = false
+isHand (Fetch j k p) = false
+isHand (SendHash j p) = false
+isHand (Hear j e) = false
+isHand (Back j) = false
+isHand (Publish e) = false
+isHand (FalseSignature j p x) = false
+isHand (FalseShare j p x) = false
+isHand (FalseHash j p B) = false
+isHand (FalseBacking j p B) = false
+isHand (Down j) = false
+isHand (Up j) = false
+
+module _ (h : Head) (c d : ℕ → ℕ → Bool) (s : List ℕ) where
+  -- no other step is judged by what clashes
+  not-asked : (st : Step) → isHand st ≡ false → answerOn h c s st ≡ answerOn h d s st
+  unfolding answer rule boardFrom
+  not-asked (Post x) n = refl
+  not-asked (Hand j x) n = split refl n
+  not-asked (Sign j x) n = refl
+  not-asked (Take j k p x) n = refl
+  not-asked (Share j x) n = refl
+  not-asked (Receipt p x) n = refl
+  not-asked (Close j) n = refl
+  not-asked (Fetch j k p) n = refl
+  not-asked (SendHash j p) n = refl
+  not-asked (Hear j e) n = refl
+  not-asked (Back j) n = refl
+  not-asked (Publish e) n = refl
+  not-asked (FalseSignature j p x) n = refl
+  not-asked (FalseShare j p x) n = refl
+  not-asked (FalseHash j p B) n = refl
+  not-asked (FalseBacking j p B) n = refl
+  not-asked (Down j) n = refl
+  not-asked (Up j) n = refl
+
+  -- a hand is judged by what clashes with its item
+  hand-asked : (j x : ℕ) → clashing (tableOf h c) (stateOf (contents s) .held j) x ≡ clashing (tableOf h d) (stateOf (contents s) .held j) x → answerOn h c s (Hand j x) ≡ answerOn h d s (Hand j x)
+  unfolding answer rule
+  hand-asked j x e = rw e
+
+  -- what a step does is the same whatever clashes
+  same-effect : (st : Step) → effectOn (tableOf h c) (contents s) st ≡ effectOn (tableOf h d) (contents s) st
+  unfolding effectOn boardFrom
+  same-effect (Post x) = refl
+  same-effect (Hand j x) = refl
+  same-effect (Sign j x) = refl
+  same-effect (Take j k p x) = refl
+  same-effect (Share j x) = refl
+  same-effect (Receipt p x) = refl
+  same-effect (Close j) = refl
+  same-effect (Fetch j k p) = refl
+  same-effect (SendHash j p) = refl
+  same-effect (Hear j e) = refl
+  same-effect (Back j) = refl
+  same-effect (Publish e) = refl
+  same-effect (FalseSignature j p x) = refl
+  same-effect (FalseShare j p x) = refl
+  same-effect (FalseHash j p B) = refl
+  same-effect (FalseBacking j p B) = refl
+  same-effect (Down j) = refl
+  same-effect (Up j) = refl
+
+  stepped-too : (t : List ℕ) (st : Step) (r : ℕ) → answerOn h c s st ≡ answerOn h d s st → Stepped h c s t st r → Stepped h d s t st r
+  stepped-too t st r e S = record { answers = S .answers ∙ e; leaves = rw (← same-effect st) (S .leaves) }
+
+-- the step that the match found, with what clashes in the table
+pub of-step : (h : Head) (clash : ℕ → ℕ → Bool) (s t : List ℕ) (r : ℕ) (a b : Step) → b ≡ a → isHand a ≡ false → Stepped h noClash s t a r → Stepped h clash s t b r
+of-step h clash s t r a b e n S = subst (λ st. Stepped h clash s t st r) (sym e) (stepped-too h noClash clash s t a r (not-asked h noClash clash s a n) S)
+
+-- and the hand, whose item's row was read
+module _ (h : Head) (table s : List ℕ) (R : Ready h s) (same : h .items ≡ itemsOf table) (j x row : ℕ) (read : row ≡ clashMask table x) where
+  row-asked : clashing (tableOf h (inRow row)) (stateOf (contents s) .held j) x ≡ clashing (tableOf h (clashIn table)) (stateOf (contents s) .held j) x
+  unfolding clashing clashMask
+  row-asked =
+      any-ext (h .periods) _ _ (λ p _.
+      any-ext (h .items) _ _ (λ y l.
+      ap (λ (b : Bool). stateOf (contents s) .held j p y && b) (ap (λ (m : ℕ). bit m y) read ∙ bit-pack (maskWidth table) (clashIn table x) y (omega (arith, R .room .items)))))
+
+  pub of-hand : (t : List ℕ) (r : ℕ) (b : Step) → b ≡ Hand j x → Stepped h (inRow row) s t (Hand j x) r → Stepped h (clashIn table) s t b r
+  of-hand t r b e S = subst (λ st. Stepped h (clashIn table) s t st r) (sym e) (stepped-too h (inRow row) (clashIn table) s t (Hand j x) r (hand-asked h (inRow row) (clashIn table) s j x row-asked) S)

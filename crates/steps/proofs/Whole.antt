@@ -1,0 +1,20 @@
+-- A whole step: refused, or taken.
+use Prim.Native.Nat.{ℕ}
+use mathlib.Core.Bool.{Bool}
+use mathlib.Core.List.{List}
+use mathlib.Core.Path.{_≡_, sym, subst, _∙_}
+use borrow.Author.Tests.{ne-eqb}
+use Rattle.rules.specs.declared.Step.{Step}
+use Rattle.state.specs.Contents.{contents, Holds}
+use Rattle.state.proofs.Encode.{holds-bytes}
+use Rattle.view.specs.declared.Head.{Head}
+use Rattle.view.specs.View.{tableOf, answerOn}
+use Rattle.view.specs.Effect.{effectOn}
+use Rattle.steps.specs.Stepped.{Stepped}
+
+module _ (h : Head) (clash : ℕ → ℕ → Bool) (s : List ℕ) (st : Step) where
+  pub refused : (r : ℕ) → r ≡ answerOn h clash s st → (r ≡ 0 → ⊥) → Stepped h clash s s st r
+  refused r e n = record { answers = e; leaves = rw (ne-eqb r 0 n) }
+
+  pub taken : (t : List ℕ) {a : ℕ} → a ≡ answerOn h clash s st → a ≡ 0 → Holds t (effectOn (tableOf h clash) (contents s) st) → Stepped h clash s t st 0
+  taken t e z held = record { answers = sym z ∙ e; leaves = holds-bytes t _ held }

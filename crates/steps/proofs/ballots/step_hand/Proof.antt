@@ -1,0 +1,41 @@
+-- What is refused alters nothing; what is taken has the rules' effect, by `did-hand`.
+use borrow.Author.Needs.{needs}
+use Rattle.judge.proofs.Row.{asked}
+use Rattle.steps.proofs.Whole.{refused, taken}
+use Rattle.steps.proofs.May.{may-hand}
+use Rattle.steps.proofs.Did.{did-hand, still-canon}
+use Rattle.steps.proofs.ballots.step_hand.Statement.{statement}
+use Rattle.steps.proofs.ballots.step_hand.Tie as tie
+
+judge-hand-requires : tie.Need-judge-hand-requires
+judge-hand-requires c κs = search asked
+
+same-length : tie.Need-same-length
+same-length c = search needs
+
+returns : tie.Need-returns
+returns c = search refused
+
+open-of-requires : tie.Need-open-of-requires
+open-of-requires c κs = search (asked, still-canon) depth 6
+
+add-fact-requires : tie.Need-add-fact-requires
+add-fact-requires c κs = search (asked, may-hand) depth 6
+
+same-length-2 : tie.Need-same-length-2
+same-length-2 c = search needs
+
+returns-2 : tie.Need-returns-2
+returns-2 c = search (taken, did-hand) depth 6
+
+pub step-hand-spec : {M : Type 1} → statement M
+step-hand-spec =
+    tie.close
+    (tie.spec
+    judge-hand-requires
+    same-length
+    returns
+    open-of-requires
+    add-fact-requires
+    same-length-2
+    returns-2)

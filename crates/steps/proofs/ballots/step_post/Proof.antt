@@ -1,0 +1,37 @@
+-- What is refused alters nothing; what is taken has the rules' effect, by `did-post`.
+use borrow.Author.Needs.{needs}
+use Rattle.judge.proofs.Row.{asked}
+use Rattle.steps.proofs.Whole.{refused, taken}
+use Rattle.steps.proofs.May.{may-post}
+use Rattle.steps.proofs.Did.{did-post}
+use Rattle.steps.proofs.ballots.step_post.Statement.{statement}
+use Rattle.steps.proofs.ballots.step_post.Tie as tie
+
+judge-post-requires : tie.Need-judge-post-requires
+judge-post-requires c κs = search asked
+
+same-length : tie.Need-same-length
+same-length c = search needs
+
+returns : tie.Need-returns
+returns c = search refused
+
+add-fact-requires : tie.Need-add-fact-requires
+add-fact-requires c κs = search (asked, may-post) depth 6
+
+same-length-2 : tie.Need-same-length-2
+same-length-2 c = search needs
+
+returns-2 : tie.Need-returns-2
+returns-2 c = search (taken, did-post) depth 6
+
+pub step-post-spec : {M : Type 1} → statement M
+step-post-spec =
+    tie.close
+    (tie.spec
+    judge-post-requires
+    same-length
+    returns
+    add-fact-requires
+    same-length-2
+    returns-2)

@@ -1,0 +1,45 @@
+-- What is refused alters nothing; what is taken has the rules' effect, by `did-sign`.
+use borrow.Author.Needs.{needs}
+use Rattle.judge.proofs.Row.{asked}
+use Rattle.steps.proofs.Whole.{refused, taken}
+use Rattle.steps.proofs.May.{may-sign, may-know-own}
+use Rattle.steps.proofs.Did.{did-sign, still-canon}
+use Rattle.steps.proofs.ballots.step_sign.Statement.{statement}
+use Rattle.steps.proofs.ballots.step_sign.Tie as tie
+
+judge-sign-requires : tie.Need-judge-sign-requires
+judge-sign-requires c κs = search asked
+
+same-length : tie.Need-same-length
+same-length c = search needs
+
+returns : tie.Need-returns
+returns c = search refused
+
+open-of-requires : tie.Need-open-of-requires
+open-of-requires c κs = search (asked, still-canon) depth 6
+
+add-fact-requires : tie.Need-add-fact-requires
+add-fact-requires c κs = search (asked, may-sign) depth 6
+
+add-fact-requires-2 : tie.Need-add-fact-requires-2
+add-fact-requires-2 c κs = search (asked, may-know-own) depth 6
+
+same-length-2 : tie.Need-same-length-2
+same-length-2 c = search needs
+
+returns-2 : tie.Need-returns-2
+returns-2 c = search (taken, did-sign) depth 6
+
+pub step-sign-spec : {M : Type 1} → statement M
+step-sign-spec =
+    tie.close
+    (tie.spec
+    judge-sign-requires
+    same-length
+    returns
+    open-of-requires
+    add-fact-requires
+    add-fact-requires-2
+    same-length-2
+    returns-2)

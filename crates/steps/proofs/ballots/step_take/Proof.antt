@@ -1,0 +1,37 @@
+-- What is refused alters nothing; what is taken has the rules' effect, by `did-take`.
+use borrow.Author.Needs.{needs}
+use Rattle.judge.proofs.Row.{asked}
+use Rattle.steps.proofs.Whole.{refused, taken}
+use Rattle.steps.proofs.May.{may-take}
+use Rattle.steps.proofs.Did.{did-take}
+use Rattle.steps.proofs.ballots.step_take.Statement.{statement}
+use Rattle.steps.proofs.ballots.step_take.Tie as tie
+
+judge-take-requires : tie.Need-judge-take-requires
+judge-take-requires c κs = search asked
+
+same-length : tie.Need-same-length
+same-length c = search needs
+
+returns : tie.Need-returns
+returns c = search refused
+
+add-fact-requires : tie.Need-add-fact-requires
+add-fact-requires c κs = search (asked, may-take) depth 6
+
+same-length-2 : tie.Need-same-length-2
+same-length-2 c = search needs
+
+returns-2 : tie.Need-returns-2
+returns-2 c = search (taken, did-take) depth 6
+
+pub step-take-spec : {M : Type 1} → statement M
+step-take-spec =
+    tie.close
+    (tie.spec
+    judge-take-requires
+    same-length
+    returns
+    add-fact-requires
+    same-length-2
+    returns-2)

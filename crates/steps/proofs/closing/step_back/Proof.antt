@@ -1,0 +1,72 @@
+-- What is refused alters nothing; what is taken has the rules' effect, by `did-back`.
+use borrow.Author.Needs.{needs}
+use Rattle.judge.proofs.Row.{asked}
+use Rattle.steps.proofs.Whole.{refused, taken}
+use Rattle.steps.proofs.May.{room-for-backing, of-next, may-back, back-fits}
+use Rattle.steps.proofs.Did.{did-back, still-canon}
+use Rattle.steps.proofs.closing.step_back.Statement.{statement}
+use Rattle.steps.proofs.closing.step_back.Tie as tie
+
+next-of-requires : tie.Need-next-of-requires
+next-of-requires c κs = search asked
+
+board-by-requires : tie.Need-board-by-requires
+board-by-requires c κs = search asked
+
+judge-back-requires : tie.Need-judge-back-requires
+judge-back-requires c κs =
+    let ready = c .before .before .before .before .before .before .pre in
+    let period = c .before .before .before .next-of .ensures in
+    let own = c .before .board-by .ensures in
+    (ready, period, of-next _ _ _ ready _ _ _ period own)
+
+same-length : tie.Need-same-length
+same-length c = search needs
+
+returns : tie.Need-returns
+returns c = search refused
+
+enter-requires : tie.Need-enter-requires
+enter-requires c κs =
+    let judging = c .before .before in
+    let making = judging .before .before in
+    let reading = making .before .before in
+    let ready = reading .before .before .before .pre in
+    let period = reading .next-of .ensures in
+    (search asked, room-for-backing _ _ _ ready _ _ _ (judging .judge-back .ensures) (search needs) period (of-next _ _ _ ready _ _ _ period (making .board-by .ensures)))
+
+raise-next-requires : tie.Need-raise-next-requires
+raise-next-requires c κs =
+    let entering = c .before .before .before in
+    let judging = entering .before .before .before in
+    let reading = judging .before .before .before .before in
+    let ready = reading .before .before .before .pre in
+    let entered = entering .enter .ensures in
+    (still-canon _ _ entered, may-back _ _ _ ready _ (judging .judge-back .ensures) (search needs), back-fits _ _ ready _ _ _ entered)
+
+same-length-2 : tie.Need-same-length-2
+same-length-2 c = search needs
+
+returns-2 : tie.Need-returns-2
+returns-2 c =
+    let raising = c .before .before in
+    let entering = raising .before .before .before .before in
+    let judging = entering .before .before .before in
+    let making = judging .before .before in
+    let reading = making .before .before in
+    let did = did-back _ _ _ _ _ _ _ (reading .next-of .ensures) (making .board-by .ensures) (entering .enter .ensures) (raising .raise-next .ensures) in
+    taken _ _ _ _ _ (judging .judge-back .ensures) (search needs) did
+
+pub step-back-spec : {M : Type 1} → statement M
+step-back-spec =
+    tie.close
+    (tie.spec
+    next-of-requires
+    board-by-requires
+    judge-back-requires
+    same-length
+    returns
+    enter-requires
+    raise-next-requires
+    same-length-2
+    returns-2)

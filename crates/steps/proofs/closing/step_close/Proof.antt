@@ -1,0 +1,37 @@
+-- What is refused alters nothing; what is taken has the rules' effect, by `did-close`.
+use borrow.Author.Needs.{needs}
+use Rattle.judge.proofs.Row.{asked}
+use Rattle.steps.proofs.Whole.{refused, taken}
+use Rattle.steps.proofs.May.{may-close, close-fits}
+use Rattle.steps.proofs.Did.{did-close}
+use Rattle.steps.proofs.closing.step_close.Statement.{statement}
+use Rattle.steps.proofs.closing.step_close.Tie as tie
+
+judge-close-requires : tie.Need-judge-close-requires
+judge-close-requires c κs = search asked
+
+same-length : tie.Need-same-length
+same-length c = search needs
+
+returns : tie.Need-returns
+returns c = search refused
+
+raise-open-requires : tie.Need-raise-open-requires
+raise-open-requires c κs = search (asked, may-close, close-fits) depth 6
+
+same-length-2 : tie.Need-same-length-2
+same-length-2 c = search needs
+
+returns-2 : tie.Need-returns-2
+returns-2 c = search (taken, did-close) depth 6
+
+pub step-close-spec : {M : Type 1} → statement M
+step-close-spec =
+    tie.close
+    (tie.spec
+    judge-close-requires
+    same-length
+    returns
+    raise-open-requires
+    same-length-2
+    returns-2)

@@ -1,0 +1,37 @@
+-- What is refused alters nothing; what is taken has the rules' effect, by `did-fetch`.
+use borrow.Author.Needs.{needs}
+use Rattle.judge.proofs.Row.{asked}
+use Rattle.steps.proofs.Whole.{refused, taken}
+use Rattle.steps.proofs.May.{may-fetch}
+use Rattle.steps.proofs.Did.{did-fetch}
+use Rattle.steps.proofs.closing.step_fetch.Statement.{statement}
+use Rattle.steps.proofs.closing.step_fetch.Tie as tie
+
+judge-fetch-requires : tie.Need-judge-fetch-requires
+judge-fetch-requires c κs = search asked
+
+same-length : tie.Need-same-length
+same-length c = search needs
+
+returns : tie.Need-returns
+returns c = search refused
+
+fetch-requires : tie.Need-fetch-requires
+fetch-requires c κs = search (asked, may-fetch) depth 6
+
+same-length-2 : tie.Need-same-length-2
+same-length-2 c = search needs
+
+returns-2 : tie.Need-returns-2
+returns-2 c = search (taken, did-fetch) depth 6
+
+pub step-fetch-spec : {M : Type 1} → statement M
+step-fetch-spec =
+    tie.close
+    (tie.spec
+    judge-fetch-requires
+    same-length
+    returns
+    fetch-requires
+    same-length-2
+    returns-2)

@@ -1,0 +1,41 @@
+-- What is refused alters nothing; what is taken has the rules' effect, by `did-publish`.
+use borrow.Author.Needs.{needs}
+use Rattle.judge.proofs.Row.{asked}
+use Rattle.steps.proofs.Whole.{refused, taken}
+use Rattle.steps.proofs.May.{room-for-board}
+use Rattle.steps.proofs.Did.{did-publish, still-canon}
+use Rattle.steps.proofs.closing.step_publish.Statement.{statement}
+use Rattle.steps.proofs.closing.step_publish.Tie as tie
+
+judge-publish-requires : tie.Need-judge-publish-requires
+judge-publish-requires c κs = search asked
+
+same-length : tie.Need-same-length
+same-length c = search needs
+
+returns : tie.Need-returns
+returns c = search refused
+
+sheet-of-requires : tie.Need-sheet-of-requires
+sheet-of-requires c κs = search (asked, still-canon) depth 6
+
+enter-requires : tie.Need-enter-requires
+enter-requires c κs = search (asked, room-for-board) depth 6
+
+same-length-2 : tie.Need-same-length-2
+same-length-2 c = search needs
+
+returns-2 : tie.Need-returns-2
+returns-2 c = search (taken, did-publish) depth 6
+
+pub step-publish-spec : {M : Type 1} → statement M
+step-publish-spec =
+    tie.close
+    (tie.spec
+    judge-publish-requires
+    same-length
+    returns
+    sheet-of-requires
+    enter-requires
+    same-length-2
+    returns-2)

@@ -1,0 +1,45 @@
+-- What is refused alters nothing; what is taken has the rules' effect, by `did-send-hash`.
+use borrow.Author.Needs.{needs}
+use Rattle.judge.proofs.Row.{asked}
+use Rattle.steps.proofs.Whole.{refused, taken}
+use Rattle.steps.proofs.May.{room-for-hash}
+use Rattle.steps.proofs.Did.{did-send-hash}
+use Rattle.steps.proofs.closing.step_send_hash.Statement.{statement}
+use Rattle.steps.proofs.closing.step_send_hash.Tie as tie
+
+board-by-requires : tie.Need-board-by-requires
+board-by-requires c κs = search asked
+
+judge-send-hash-requires : tie.Need-judge-send-hash-requires
+judge-send-hash-requires c κs = search asked
+
+same-length : tie.Need-same-length
+same-length c = search needs
+
+returns : tie.Need-returns
+returns c = search refused
+
+enter-requires : tie.Need-enter-requires
+enter-requires c κs =
+    let judging = c .before .before in
+    let making = judging .before .before in
+    let ready = making .before .before .before .pre in
+    (search asked, room-for-hash _ _ _ ready _ _ _ (judging .judge-send-hash .ensures) (search needs) (making .board-by .ensures))
+
+same-length-2 : tie.Need-same-length-2
+same-length-2 c = search needs
+
+returns-2 : tie.Need-returns-2
+returns-2 c = search (taken, did-send-hash) depth 6
+
+pub step-send-hash-spec : {M : Type 1} → statement M
+step-send-hash-spec =
+    tie.close
+    (tie.spec
+    board-by-requires
+    judge-send-hash-requires
+    same-length
+    returns
+    enter-requires
+    same-length-2
+    returns-2)

@@ -1,0 +1,37 @@
+-- What is refused alters nothing; what is taken has the rules' effect, by `did-down`.
+use borrow.Author.Needs.{needs}
+use Rattle.judge.proofs.Row.{asked}
+use Rattle.steps.proofs.Whole.{refused, taken}
+use Rattle.steps.proofs.May.{may-down}
+use Rattle.steps.proofs.Did.{did-down}
+use Rattle.steps.proofs.outside.step_down.Statement.{statement}
+use Rattle.steps.proofs.outside.step_down.Tie as tie
+
+judge-down-requires : tie.Need-judge-down-requires
+judge-down-requires c κs = search asked
+
+same-length : tie.Need-same-length
+same-length c = search needs
+
+returns : tie.Need-returns
+returns c = search refused
+
+set-value-requires : tie.Need-set-value-requires
+set-value-requires c κs = search (asked, may-down) depth 6
+
+same-length-2 : tie.Need-same-length-2
+same-length-2 c = search needs
+
+returns-2 : tie.Need-returns-2
+returns-2 c = search (taken, did-down) depth 6
+
+pub step-down-spec : {M : Type 1} → statement M
+step-down-spec =
+    tie.close
+    (tie.spec
+    judge-down-requires
+    same-length
+    returns
+    set-value-requires
+    same-length-2
+    returns-2)

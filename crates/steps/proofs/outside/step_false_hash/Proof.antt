@@ -1,0 +1,37 @@
+-- What is refused alters nothing; what is taken has the rules' effect, by `did-false-hash`.
+use borrow.Author.Needs.{needs}
+use Rattle.judge.proofs.Row.{asked}
+use Rattle.steps.proofs.Whole.{refused, taken}
+use Rattle.steps.proofs.May.{room-for-false-hash}
+use Rattle.steps.proofs.Did.{did-false-hash}
+use Rattle.steps.proofs.outside.step_false_hash.Statement.{statement}
+use Rattle.steps.proofs.outside.step_false_hash.Tie as tie
+
+judge-false-hash-requires : tie.Need-judge-false-hash-requires
+judge-false-hash-requires c κs = search asked
+
+same-length : tie.Need-same-length
+same-length c = search needs
+
+returns : tie.Need-returns
+returns c = search refused
+
+enter-requires : tie.Need-enter-requires
+enter-requires c κs = search (asked, room-for-false-hash) depth 6
+
+same-length-2 : tie.Need-same-length-2
+same-length-2 c = search needs
+
+returns-2 : tie.Need-returns-2
+returns-2 c = search (taken, did-false-hash) depth 6
+
+pub step-false-hash-spec : {M : Type 1} → statement M
+step-false-hash-spec =
+    tie.close
+    (tie.spec
+    judge-false-hash-requires
+    same-length
+    returns
+    enter-requires
+    same-length-2
+    returns-2)

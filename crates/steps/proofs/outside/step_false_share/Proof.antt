@@ -1,0 +1,37 @@
+-- What is refused alters nothing; what is taken has the rules' effect, by `did-false-share`.
+use borrow.Author.Needs.{needs}
+use Rattle.judge.proofs.Row.{asked}
+use Rattle.steps.proofs.Whole.{refused, taken}
+use Rattle.steps.proofs.May.{may-false-share}
+use Rattle.steps.proofs.Did.{did-false-share}
+use Rattle.steps.proofs.outside.step_false_share.Statement.{statement}
+use Rattle.steps.proofs.outside.step_false_share.Tie as tie
+
+judge-false-share-requires : tie.Need-judge-false-share-requires
+judge-false-share-requires c κs = search asked
+
+same-length : tie.Need-same-length
+same-length c = search needs
+
+returns : tie.Need-returns
+returns c = search refused
+
+add-fact-requires : tie.Need-add-fact-requires
+add-fact-requires c κs = search (asked, may-false-share) depth 6
+
+same-length-2 : tie.Need-same-length-2
+same-length-2 c = search needs
+
+returns-2 : tie.Need-returns-2
+returns-2 c = search (taken, did-false-share) depth 6
+
+pub step-false-share-spec : {M : Type 1} → statement M
+step-false-share-spec =
+    tie.close
+    (tie.spec
+    judge-false-share-requires
+    same-length
+    returns
+    add-fact-requires
+    same-length-2
+    returns-2)

@@ -1,0 +1,37 @@
+-- What is refused alters nothing; what is taken has the rules' effect, by `did-up`.
+use borrow.Author.Needs.{needs}
+use Rattle.judge.proofs.Row.{asked}
+use Rattle.steps.proofs.Whole.{refused, taken}
+use Rattle.steps.proofs.May.{may-up}
+use Rattle.steps.proofs.Did.{did-up}
+use Rattle.steps.proofs.outside.step_up.Statement.{statement}
+use Rattle.steps.proofs.outside.step_up.Tie as tie
+
+judge-up-requires : tie.Need-judge-up-requires
+judge-up-requires c κs = search asked
+
+same-length : tie.Need-same-length
+same-length c = search needs
+
+returns : tie.Need-returns
+returns c = search refused
+
+set-value-requires : tie.Need-set-value-requires
+set-value-requires c κs = search (asked, may-up) depth 6
+
+same-length-2 : tie.Need-same-length-2
+same-length-2 c = search needs
+
+returns-2 : tie.Need-returns-2
+returns-2 c = search (taken, did-up) depth 6
+
+pub step-up-spec : {M : Type 1} → statement M
+step-up-spec =
+    tie.close
+    (tie.spec
+    judge-up-requires
+    same-length
+    returns
+    set-value-requires
+    same-length-2
+    returns-2)

@@ -1,0 +1,86 @@
+// Steps 1 to 6: from a posted item to its receipt.
+ghost use mathlib.Core.Path.{_≡_};
+ghost use Rattle.rules.specs.declared.Step.the-variants.{Post, Hand, Sign, Take, Share, Receipt};
+ghost use Rattle.view.specs.View.{noClash, inRow};
+ghost use Rattle.view.specs.Ready.{Ready};
+ghost use Rattle.steps.specs.Stepped.{Stepped};
+use state::Fact;
+use state::facts::add_fact;
+use state::numbers::open_of;
+use view::Head;
+
+pub fn step_post(s: &mut [u8], h: Head, x: u8) -> u8
+    requires { ⌜ Ready h (now s) ⌝ }
+    ensures { λ r. ⌜ Stepped h noClash (now (s .entry)) (now (s .exit)) (Post x) r ⌝ }
+{
+    let a = judge::ballots::judge_post(s, h, x);
+    if a != 0 {
+        return a;
+    }
+    add_fact(s, Fact::Posted(x));
+    0
+}
+
+pub fn step_hand(s: &mut [u8], h: Head, row: u64, j: u8, x: u8) -> u8
+    requires { ⌜ Ready h (now s) ⌝ }
+    ensures { λ r. ⌜ Stepped h (inRow row) (now (s .entry)) (now (s .exit)) (Hand j x) r ⌝ }
+{
+    let a = judge::ballots::judge_hand(s, h, row, j, x);
+    if a != 0 {
+        return a;
+    }
+    let p = open_of(s, j);
+    add_fact(s, Fact::Held(j, p, x));
+    0
+}
+
+pub fn step_sign(s: &mut [u8], h: Head, j: u8, x: u8) -> u8
+    requires { ⌜ Ready h (now s) ⌝ }
+    ensures { λ r. ⌜ Stepped h noClash (now (s .entry)) (now (s .exit)) (Sign j x) r ⌝ }
+{
+    let a = judge::ballots::judge_sign(s, h, j, x);
+    if a != 0 {
+        return a;
+    }
+    let p = open_of(s, j);
+    add_fact(s, Fact::Signed(j, p, x));
+    add_fact(s, Fact::Known(j, p, x, j));
+    0
+}
+
+pub fn step_take(s: &mut [u8], h: Head, j: u8, k: u8, p: u8, x: u8) -> u8
+    requires { ⌜ Ready h (now s) ⌝ }
+    ensures { λ r. ⌜ Stepped h noClash (now (s .entry)) (now (s .exit)) (Take j k p x) r ⌝ }
+{
+    let a = judge::ballots::judge_take(s, h, j, k, p, x);
+    if a != 0 {
+        return a;
+    }
+    add_fact(s, Fact::Known(j, p, x, k));
+    0
+}
+
+pub fn step_share(s: &mut [u8], h: Head, j: u8, x: u8) -> u8
+    requires { ⌜ Ready h (now s) ⌝ }
+    ensures { λ r. ⌜ Stepped h noClash (now (s .entry)) (now (s .exit)) (Share j x) r ⌝ }
+{
+    let a = judge::ballots::judge_share(s, h, j, x);
+    if a != 0 {
+        return a;
+    }
+    let p = open_of(s, j);
+    add_fact(s, Fact::Shared(j, p, x));
+    0
+}
+
+pub fn step_receipt(s: &mut [u8], h: Head, p: u8, x: u8) -> u8
+    requires { ⌜ Ready h (now s) ⌝ }
+    ensures { λ r. ⌜ Stepped h noClash (now (s .entry)) (now (s .exit)) (Receipt p x) r ⌝ }
+{
+    let a = judge::ballots::judge_receipt(s, h, p, x);
+    if a != 0 {
+        return a;
+    }
+    add_fact(s, Fact::Receipted(p, x));
+    0
+}

@@ -1,0 +1,69 @@
+// Changes that several steps share: a counter raised, an entry entered.
+ghost use mathlib.Core.Path.{_≡_};
+ghost use Prim.Native.Nat.{_+_, _<_};
+ghost use Rattle.state.specs.declared.Number.the-variants.{OpenOf, NextOf};
+ghost use Rattle.state.specs.Facts.{Peer};
+ghost use mathlib.Core.Bool.{false};
+ghost use Rattle.rules.specs.declared.Entry.the-variants.{Board};
+ghost use Rattle.rules.specs.Bag.{isFull, entryAt, periodOf, boardOf};
+ghost use Rattle.state.specs.Contents.{contents, Canon, Holds, store};
+ghost use Rattle.view.specs.Effect.{enterOn};
+ghost use Rattle.steps.specs.Stepped.{countersOf};
+use counters::Counters;
+use rules::Entry;
+use state::Number;
+use state::bag::append;
+use state::bag::entry_at;
+use state::bag::is_in;
+use state::numbers::next_of;
+use state::numbers::open_of;
+use state::numbers::set_value;
+
+// Peer j's counters.
+fn counters_of(s: &[u8], j: u8) -> Counters
+    requires { ⌜ Canon (now s) ⌝ }
+    ensures { λ r. ⌜ r ≡ countersOf (contents (now (s .entry))) j ⌝ }
+{
+    Counters {
+        current: open_of(s, j),
+        to_back: next_of(s, j),
+    }
+}
+
+// Raises peer j's open period by one.
+pub fn raise_open(s: &mut [u8], j: u8)
+    requires { ⌜ Canon (now s) × Peer j × (contents (now s) .number (OpenOf j) < 255) ⌝ }
+    ensures { λ _. ⌜ Holds (now (s .exit)) (store (OpenOf j) (contents (now (s .entry)) .number (OpenOf j) + 1) (contents (now (s .entry)))) ⌝ }
+{
+    let k = counters::after_close(counters_of(s, j));
+    set_value(s, Number::OpenOf(j), k.current);
+}
+
+// Raises the next period that peer j is to back by one.
+pub fn raise_next(s: &mut [u8], j: u8)
+    requires { ⌜ Canon (now s) × Peer j × (contents (now s) .number (NextOf j) < 255) ⌝ }
+    ensures { λ _. ⌜ Holds (now (s .exit)) (store (NextOf j) (contents (now (s .entry)) .number (NextOf j) + 1) (contents (now (s .entry)))) ⌝ }
+{
+    let k = counters::after_back(counters_of(s, j));
+    set_value(s, Number::NextOf(j), k.to_back);
+}
+
+// Enters an entry, unless it is there; there is room for it.
+pub fn enter(s: &mut [u8], x: Entry)
+    requires { ⌜ Canon (now s) × (isFull x (contents (now s) .bag) ≡ false) ⌝ }
+    ensures { λ _. ⌜ Holds (now (s .exit)) (enterOn x (contents (now (s .entry)))) ⌝ }
+{
+    if is_in(s, x) {
+        return;
+    }
+    append(s, x);
+}
+
+// The period and board of entry e, as a board.
+pub fn sheet_of(s: &[u8], e: u8) -> Entry
+    requires { ⌜ Canon (now s) ⌝ }
+    ensures { λ r. ⌜ r ≡ Board (periodOf (entryAt (contents (now (s .entry)) .bag) e)) (boardOf (entryAt (contents (now (s .entry)) .bag) e)) ⌝ }
+{
+    let x = entry_at(s, e as usize);
+    Entry::Board(guard::bag::period_of(x), guard::bag::board_of_entry(x))
+}

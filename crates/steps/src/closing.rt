@@ -1,0 +1,92 @@
+// Steps 7 to 12: from the close of a period to its board.
+ghost use mathlib.Core.Path.{_≡_};
+ghost use Rattle.rules.specs.declared.Step.the-variants.{Close, Fetch, SendHash, Hear, Back, Publish};
+ghost use Rattle.view.specs.View.{noClash};
+ghost use Rattle.view.specs.Ready.{Ready};
+ghost use Rattle.steps.specs.Stepped.{Stepped};
+use crate::change::enter;
+use crate::change::raise_next;
+use crate::change::raise_open;
+use crate::change::sheet_of;
+use rules::Entry;
+use state::Fact;
+use state::facts::add_fact;
+use state::numbers::next_of;
+use view::Head;
+
+pub fn step_close(s: &mut [u8], h: Head, j: u8) -> u8
+    requires { ⌜ Ready h (now s) ⌝ }
+    ensures { λ r. ⌜ Stepped h noClash (now (s .entry)) (now (s .exit)) (Close j) r ⌝ }
+{
+    let a = judge::closing::judge_close(s, h, j);
+    if a != 0 {
+        return a;
+    }
+    raise_open(s, j);
+    0
+}
+
+pub fn step_fetch(s: &mut [u8], h: Head, j: u8, k: u8, p: u8) -> u8
+    requires { ⌜ Ready h (now s) ⌝ }
+    ensures { λ r. ⌜ Stepped h noClash (now (s .entry)) (now (s .exit)) (Fetch j k p) r ⌝ }
+{
+    let a = judge::closing::judge_fetch(s, h, j, k, p);
+    if a != 0 {
+        return a;
+    }
+    database::fetch(s, j, k, p);
+    0
+}
+
+pub fn step_hear(s: &mut [u8], h: Head, j: u8, e: u8) -> u8
+    requires { ⌜ Ready h (now s) ⌝ }
+    ensures { λ r. ⌜ Stepped h noClash (now (s .entry)) (now (s .exit)) (Hear j e) r ⌝ }
+{
+    let a = judge::closing::judge_hear(s, h, j, e);
+    if a != 0 {
+        return a;
+    }
+    add_fact(s, Fact::Heard(j, e));
+    0
+}
+
+pub fn step_publish(s: &mut [u8], h: Head, e: u8) -> u8
+    requires { ⌜ Ready h (now s) ⌝ }
+    ensures { λ r. ⌜ Stepped h noClash (now (s .entry)) (now (s .exit)) (Publish e) r ⌝ }
+{
+    let a = judge::closing::judge_publish(s, h, e);
+    if a != 0 {
+        return a;
+    }
+    let x = sheet_of(s, e);
+    enter(s, x);
+    0
+}
+
+pub fn step_send_hash(s: &mut [u8], h: Head, j: u8, p: u8) -> u8
+    requires { ⌜ Ready h (now s) ⌝ }
+    ensures { λ r. ⌜ Stepped h noClash (now (s .entry)) (now (s .exit)) (SendHash j p) r ⌝ }
+{
+    let board = guard::boards::board_by(s, h, j, p);
+    let a = judge::closing::judge_send_hash(s, h, j, p, board);
+    if a != 0 {
+        return a;
+    }
+    enter(s, Entry::Hash(j, p, board));
+    0
+}
+
+pub fn step_back(s: &mut [u8], h: Head, j: u8) -> u8
+    requires { ⌜ Ready h (now s) ⌝ }
+    ensures { λ r. ⌜ Stepped h noClash (now (s .entry)) (now (s .exit)) (Back j) r ⌝ }
+{
+    let c = next_of(s, j);
+    let board = guard::boards::board_by(s, h, j, c);
+    let a = judge::closing::judge_back(s, h, j, c, board);
+    if a != 0 {
+        return a;
+    }
+    enter(s, Entry::Backing(j, c, board));
+    raise_next(s, j);
+    0
+}
