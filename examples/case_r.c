@@ -59,15 +59,15 @@ static int is_rehearsed(const uint8_t *stepped, uint8_t *state, size_t length,
     memcpy(input, table, sizeof table);
     memcpy(input + sizeof table, steps, sizeof steps);
     size_t written = board_rehearse(input, sizeof input, state, length, out, room);
-    int good = written == room && memcmp(out, report, room) == 0;
+    int good = written == sizeof report - 1 && memcmp(out, report, written) == 0;
     if (good) {
-        fwrite(out, 1, room, stdout);
+        fwrite(out, 1, written, stdout);
     }
     return good && memcmp(state, stepped, length) == 0;
 }
 
 int main(void) {
-    size_t length = board_state_length(), room = sizeof report - 1;
+    size_t length = board_state_length(), room = board_report_most();
     uint8_t *stepped = malloc(length), *state = malloc(length), *out = malloc(room);
     int good = stepped != NULL && state != NULL && out != NULL
             && is_stepped(stepped, length)

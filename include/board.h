@@ -27,8 +27,8 @@ uint8_t board_step(const uint8_t *table, size_t table_length,
                    uint8_t *state, size_t state_length,
                    const uint8_t *step, size_t step_length);
 
-/* No report is longer. */
-#define BOARD_REPORT_MOST 222000
+/* The length of an output that has room for every report, in bytes. */
+size_t board_report_most(void);
 
 /* Rehearses the input, a table and steps: the report's length in bytes, of
  * which as many as fit are written to out.

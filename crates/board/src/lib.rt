@@ -32,6 +32,14 @@ pub extern "C" fn board_step(table: &[u8], state: &mut [u8], step: &[u8]) -> u8
     engine::step(table, state, step)
 }
 
+// The length of an output that has room for every report.
+#[no_mangle]
+pub extern "C" fn board_report_most() -> usize
+    ensures { λ r. ⌜ r ≡ reportMost ⌝ }
+{
+    rehearsal::REPORT_MOST
+}
+
 // Rehearses the input, a table and steps, and answers the report's length; as much of the report as fits is written.
 #[no_mangle]
 pub extern "C" fn board_rehearse(input: &[u8], state: &mut [u8], out: &mut [u8]) -> usize

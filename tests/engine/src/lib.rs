@@ -21,6 +21,7 @@ mod c {
             step: *const u8,
             step_length: usize,
         ) -> u8;
+        pub fn board_report_most() -> usize;
         pub fn board_rehearse(
             input: *const u8,
             input_length: usize,
@@ -46,6 +47,11 @@ pub fn board_step(table: &[u8], state: &mut [u8], step: &[u8]) -> u8 {
     let (at, length) = (state.as_mut_ptr(), state.len());
     // Each pointer goes with its slice's length.
     unsafe { c::board_step(table.as_ptr(), table.len(), at, length, step.as_ptr(), step.len()) }
+}
+
+pub fn board_report_most() -> usize {
+    // It takes nothing and reads no memory.
+    unsafe { c::board_report_most() }
 }
 
 pub fn board_rehearse(input: &[u8], state: &mut [u8], out: &mut [u8]) -> usize {

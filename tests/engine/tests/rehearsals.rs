@@ -2,7 +2,7 @@
 //! fresh and step lead to.
 
 use engine::layout::{encode, LENGTH};
-use engine::{board_fresh, board_rehearse, board_step};
+use engine::{board_fresh, board_rehearse, board_report_most, board_step};
 use inputs::answers::Answers;
 use inputs::kinds::{rehearsal, round};
 use inputs::random::{run_seed, Random};
@@ -89,6 +89,9 @@ fn compare(random: &mut Random, rehearsed: &Rehearsed) -> Result<(), String> {
     let state = rehearsed.outcome.as_ref().ok().map(|outcome| encode(&outcome.state));
     let expected = Expected { report: rehearse(input), state };
     let length = expected.report.len();
+    if length > board_report_most() {
+        return Err(format!("a report of {length} bytes, more than board_report_most"));
+    }
     let longer = length + random.below(300);
     call(random, input, &expected, LENGTH, longer)?;
     if random.once_in(3) {
