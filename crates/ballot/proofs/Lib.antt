@@ -1,10 +1,3 @@
-pub mod Returns
-pub mod Masks
 pub mod Marked
-pub mod Rows
-pub mod Fields
-pub mod Threshold
-pub mod Texts
 pub mod Readings
-pub mod Clashes
 pub mod Sound

@@ -1,46 +1,22 @@
 -- A table that is not refused is sound: each of its facts comes from one of the tests that it has passed.
-use Prim.Native.Nat.{ℕ, _≤_, _<_}
+use Prim.Native.Nat.{ℕ, _<_}
 use native.Mathlib.Omega.{arith}
 use mathlib.Core.Bool.{true, false}
 use mathlib.Core.List.{List}
 use mathlib.Core.Logic.{_⊎_, inl, inr}
 use mathlib.Core.Path.{_≡_, refl, sym}
 use lib.Dec.{ltb}
-use borrow.Author.Tests.{leb-true, ltb-true, ltb-false, not-true, not-false}
-use Rattle.base.proofs.Truth.{split, either, and-l, and-r}
+use borrow.Author.Tests.{ltb-true, ltb-false, not-true, not-false}
+use Rattle.base.proofs.Truth.{split, either}
 use Rattle.base.proofs.Below.{every-at}
-use Rattle.base.proofs.Bytes.{between-true, same-of-eq}
+use Rattle.base.proofs.Bytes.{same-of-eq}
 use Rattle.base.proofs.Refusals.{passed}
-use Rattle.ballot.specs.Header.{headerSize, peersOf, thresholdOf, honestOf, periodsOf, itemsOf, isHonest}
-use Rattle.ballot.specs.Header.{leastThreshold, thresholdOk, fieldsOk, headerOk}
+use Rattle.header.specs.Header.{headerSize, peersOf, thresholdOf, itemsOf, headerOk}
+use Rattle.header.proofs.TwoThirds.{threshold-rule}
+use Rattle.header.proofs.Ranges.{peers-range, threshold-range, honest-range, periods-range, items-range}
+use Rattle.pairs.proofs.Texts.{text-within, text-length}
 use Rattle.ballot.specs.Table.{tablePairsOk, itemText, itemOk, itemsOk, differ, newAt, noTwins, tableRefusals, refusal}
 use Rattle.ballot.specs.Sound.{Sound}
-use Rattle.ballot.proofs.Fields.{none-above, honest-among}
-use Rattle.ballot.proofs.Threshold.{threshold-rule}
-use Rattle.ballot.proofs.Texts.{text-within, text-length}
-
--- the header
-
-module _ (s : List ℕ) (ok : headerOk s ≡ true) where
-  peers-range : (1 ≤ peersOf s) × (peersOf s ≤ 16)
-  unfolding headerOk fieldsOk thresholdOk
-  peers-range = between-true 1 (peersOf s) 16 (search (and-l, and-r))
-
-  threshold-range : (leastThreshold (peersOf s) ≤ thresholdOf s) × (thresholdOf s ≤ peersOf s)
-  unfolding headerOk fieldsOk thresholdOk
-  threshold-range = between-true (leastThreshold (peersOf s)) (thresholdOf s) (peersOf s) (search (and-l, and-r))
-
-  honest-range : (k : ℕ) → isHonest s k ≡ true → (1 ≤ k) × (k ≤ peersOf s)
-  unfolding headerOk fieldsOk
-  honest-range = honest-among s (peersOf s) (none-above (peersOf s) (honestOf s) (search (and-l, and-r)))
-
-  periods-range : (1 ≤ periodsOf s) × (periodsOf s ≤ 8)
-  unfolding headerOk fieldsOk
-  periods-range = between-true 1 (periodsOf s) 8 (search (and-l, and-r))
-
-  items-range : itemsOf s ≤ 64
-  unfolding headerOk fieldsOk
-  items-range = leb-true (itemsOf s) 64 (search (and-l, and-r))
 
 -- the items
 

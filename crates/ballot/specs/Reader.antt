@@ -5,7 +5,7 @@ use mathlib.Core.List.{List, []}
 use lib.Dec.{ltb}
 use denote.Ref.{RefT, now}
 use Rattle.ballot.specs.declared.reader.Reader.{Reader}
-use Rattle.ballot.specs.Header.{itemsOf}
+use Rattle.header.specs.Header.{itemsOf}
 use Rattle.ballot.specs.Table.{itemText}
 
 -- the text of item k of the first `items`; none past them

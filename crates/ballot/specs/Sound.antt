@@ -4,8 +4,8 @@ use mathlib.Core.Bool.{true}
 use mathlib.Core.List.{List}
 use mathlib.Core.Path.{_≡_}
 use lib.ListN.{length}
-use Rattle.ballot.specs.Header.{headerSize, peersOf, thresholdOf, periodsOf, itemsOf, isHonest}
-use Rattle.ballot.specs.Pairs.{offsetOf, sizeOf}
+use Rattle.header.specs.Header.{headerSize, peersOf, thresholdOf, periodsOf, itemsOf, isHonest}
+use Rattle.pairs.specs.Pairs.{offsetOf, sizeOf}
 use Rattle.ballot.specs.Table.{itemText, itemOk}
 
 pub record Sound (s : List ℕ) : Type 0 where

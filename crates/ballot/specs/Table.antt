@@ -6,8 +6,8 @@ use lib.Dec.{eqb}
 use Rattle.base.specs.Bytes.{sameBytes}
 use Rattle.base.specs.Below.{every}
 use Rattle.base.specs.Refusals.{Refusals, first}
-use Rattle.ballot.specs.Header.{headerSize, itemsOf, headerOk}
-use Rattle.ballot.specs.Pairs.{textOf, pairsOk}
+use Rattle.header.specs.Header.{headerSize, itemsOf, headerOk}
+use Rattle.pairs.specs.Pairs.{textOf, pairsOk}
 use Rattle.ballot.specs.Item.{readItem, readingNumber}
 
 -- the table's own pairs are right

@@ -1,13 +1,10 @@
 // The ballot table: its header, its pairs and its items, read from lent bytes, and the first refusal of 1 to 4 that applies.
 // An item's text is handed on as the part of the table that it is; nothing is copied, and no byte is changed.
-// It uses the crate base and no other.
+// It uses header and pairs to read the table, and base.
 ghost use mathlib.Core.Path.{_≡_};
 ghost use Rattle.ballot.specs.Table.{tablePairsOk, itemText, itemOk, itemsOk, refusal};
 
-pub mod clash; // when two items clash
-pub mod header; // the fields of the header
 pub mod item; // an item, read from its text
-pub mod pairs; // pairs of offset and length, and the texts that they mark out
 pub mod reader; // a reader that stands over the table's bytes
 mod twins; // whether two items have the same text
 

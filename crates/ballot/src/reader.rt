@@ -22,7 +22,7 @@ pub fn item_below(table: &[u8], items: u8, k: u8) -> &[u8]
 pub fn over<'a>(table: &'a [u8]) -> Reader<'a>
     ensures { λ r. ⌜ r ≡ readerOver (table .entry) ⌝ }
 {
-    let items = super::header::items(table);
+    let items = header::items(table);
     Reader { table, items }
 }
 

@@ -73,7 +73,7 @@ fn is_new(table: &[u8], seen: &[u8], j: u8, mark: usize) -> bool
 pub(crate) fn no_twins(table: &[u8]) -> bool
     ensures { λ r. ⌜ r ≡ noTwins (now (table .entry)) ⌝ }
 {
-    let m = super::header::items(table);
+    let m = header::items(table);
     let mut seen = [0; 4096];
     let mut j: u8 = 0;
     while j < m {

@@ -6,3 +6,5 @@ pub mod Bits
 pub mod Sets
 pub mod Weight
 pub mod Marks
+pub mod Returns
+pub mod Masks

@@ -40,14 +40,14 @@ use denote.Triple.Table.{entered, cited}
 use denote.Triple.Walked.{says, Stays, stay-none-slice, walkOf, goes-none-slice, Walks, ends-at, walked, walk-meets}
 use denote.Exit.{yes}
 use denote.Triple.Clauses.{ensured, lasts}
-use Rattle.ballot.specs.Header.{itemsOf}
+use Rattle.header.specs.Header.{itemsOf}
 use Rattle.ballot.specs.declared.reader.Reader.{Reader}
 use Rattle.ballot.proofs.reader.Reader as T
 use Rattle.ballot.proofs.reader.Reader.Laws as T′
-use Rattle.ballot.proofs.header.items as items
-use Rattle.ballot.proofs.header.items.Symbol as items-def
-use Rattle.ballot.proofs.header.items.Symbol.{name as #items}
-use Rattle.ballot.proofs.header.items.Met as items-thm
+use Rattle.header.proofs.items as items
+use Rattle.header.proofs.items.Symbol as items-def
+use Rattle.header.proofs.items.Symbol.{name as #items}
+use Rattle.header.proofs.items.Met as items-thm
 use Rattle.ballot.proofs.reader.over.Key.{name as #over}
 use Rattle.ballot.proofs.reader.over as over
 use Rattle.ballot.proofs.reader.over.Statement as stated
@@ -182,4 +182,4 @@ over-spec 𝓤 H 𝓜 𝓖 𝓡 =
     (tables 𝓤 H 𝓜 𝓡 code.env .C) (tables 𝓤 H 𝓜 𝓡 code.env .Λ) #over code.function (code.unfolded 𝓤 H 𝓜 𝓡)
     (over-meets 𝓤 H (𝓖 .A) (givenOf 𝓤 H 𝓜 𝓖) (𝓜 .mem) (𝓡 .run) (tablesOf 𝓤 H 𝓜 (tables 𝓤 H 𝓜 𝓡 code.env))
     (cited 𝓤 H (Items 𝓤 H (𝓖 .A) (𝓜 .mem) (𝓡 .run)) 𝓜 𝓡 code.env #items items-def.routine
-    code.calls-ballot·header·items (items-thm.met 𝓤 H 𝓜 𝓖 𝓡)))
+    code.calls-header·items (items-thm.met 𝓤 H 𝓜 𝓖 𝓡)))

@@ -8,7 +8,7 @@ use Rattle.base.specs.Below.{every}
 use Rattle.base.proofs.Below.{every-none}
 use Rattle.ballot.specs.Table.{newAt, noTwins}
 use Rattle.ballot.specs.Marks.{Seen}
-use Rattle.ballot.proofs.Returns.{one-fails, one-passes, all-pass}
+use Rattle.base.proofs.Returns.{one-fails, one-passes, all-pass}
 use Rattle.ballot.proofs.Marked.{seen-none, seen-more, mark-fits}
 use Rattle.ballot.proofs.twins.no_twins.Statement.{statement}
 use Rattle.ballot.proofs.twins.no_twins.Tie as tie

@@ -1,0 +1,40 @@
+-- A text does not clash with the same text; of two different ones the readings decide.
+use mathlib.Core.Path.{sym, _∙_}
+use borrow.Author.Needs.{needs}
+use Rattle.clash.specs.Clash.{clash}
+use Rattle.clash.proofs.clashes.Statement.{statement}
+use Rattle.clash.proofs.clashes.Tie as tie
+
+same-requires : tie.Need-same-requires
+same-requires c κs = search needs
+
+returns : tie.Need-returns
+unfolding clash
+returns c = rw (sym (c .before .same .ensures) ∙ c .if1 .taken)
+
+read-item-requires : tie.Need-read-item-requires
+read-item-requires c κs = search needs
+
+read-item-requires-2 : tie.Need-read-item-requires-2
+read-item-requires-2 c κs = search needs
+
+readings-clash-requires : tie.Need-readings-clash-requires
+readings-clash-requires c κs = search needs
+
+returns-2 : tie.Need-returns-2
+unfolding clash
+returns-2 c =
+    let different = c .before .before .before in
+    let readings = simp (c .before .read-item2 .ensures, c .before .before .read-item .ensures) at (c .readings-clash .ensures) in
+    rw (sym (different .before .same .ensures) ∙ different .if1 .left) readings
+
+pub clashes-spec : {M : Type 1} → statement M
+clashes-spec =
+    tie.close
+    (tie.spec
+    same-requires
+    returns
+    read-item-requires
+    read-item-requires-2
+    readings-clash-requires
+    returns-2)

@@ -1,0 +1,61 @@
+-- The ballots of the first k items are made, by `made-more`.
+use Prim.Native.Nat.{_-_}
+use native.Mathlib.Omega.{arith}
+use borrow.Author.Needs.{needs}
+use Rattle.clash.specs.Clash.{ballotAt}
+use Rattle.clash.proofs.Made.{Made, made-none, made-more, ballots-made}
+use Rattle.clash.proofs.rows.ballots_of.Statement.{statement}
+use Rattle.clash.proofs.rows.ballots_of.Tie as tie
+
+abbrev Inv-loop : tie.InvT-loop
+Inv-loop table width ballots₀ k₀ ballots k = Made (ballotAt table) ballots k
+
+abbrev μ-loop : tie.MeasureT-loop
+μ-loop table width ballots₀ k₀ ballots k = width - k
+
+mask-width-requires : tie.Need-mask-width-requires Inv-loop μ-loop
+mask-width-requires c κs = search needs
+
+loop-holds : tie.Need-loop-holds Inv-loop μ-loop
+loop-holds c = made-none _
+
+ballot-at-requires : tie.Need-ballot-at-requires Inv-loop μ-loop
+ballot-at-requires c κs = search needs
+
+cast-ballots : tie.Need-cast-ballots Inv-loop μ-loop
+cast-ballots c = search needs
+
+mul-ballots : tie.Need-mul-ballots Inv-loop μ-loop
+mul-ballots c = search needs
+
+array-write-ballots : tie.Need-array-write-ballots Inv-loop μ-loop
+array-write-ballots c = search needs
+
+add-k : tie.Need-add-k Inv-loop μ-loop
+add-k c = search needs
+
+loop-less : tie.Need-loop-less Inv-loop μ-loop
+loop-less c = search needs
+
+loop-again : tie.Need-loop-again Inv-loop μ-loop
+loop-again c = made-more _ _ _ (c .before .before .loop .inv) (omega arith) (c .ballot-at .ensures)
+
+returns : tie.Need-returns Inv-loop μ-loop
+returns c = search ballots-made
+
+pub ballots-of-spec : {M : Type 1} → statement M
+ballots-of-spec =
+    tie.close
+    (tie.spec
+    Inv-loop
+    μ-loop
+    mask-width-requires
+    loop-holds
+    ballot-at-requires
+    cast-ballots
+    mul-ballots
+    array-write-ballots
+    add-k
+    loop-less
+    loop-again
+    returns)

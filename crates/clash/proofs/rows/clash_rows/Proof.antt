@@ -1,0 +1,60 @@
+-- The first i rows are made, by `made-more`.
+use Prim.Native.Nat.{_-_}
+use borrow.Author.Needs.{needs}
+use Rattle.clash.specs.Clash.{clashMask}
+use Rattle.clash.proofs.Made.{Made, made-none, made-more, rows-made}
+use Rattle.clash.proofs.rows.clash_rows.Statement.{statement}
+use Rattle.clash.proofs.rows.clash_rows.Tie as tie
+
+abbrev Inv-loop : tie.InvT-loop
+Inv-loop table ballots rows₀ i₀ rows i = Made (clashMask table) rows i
+
+abbrev μ-loop : tie.MeasureT-loop
+μ-loop table ballots rows₀ i₀ rows i = 64 - i
+
+ballots-of-requires : tie.Need-ballots-of-requires Inv-loop μ-loop
+ballots-of-requires c κs = search needs
+
+loop-holds : tie.Need-loop-holds Inv-loop μ-loop
+loop-holds c = made-none _
+
+mask-by-requires : tie.Need-mask-by-requires Inv-loop μ-loop
+mask-by-requires c κs = search needs
+
+cast-rows : tie.Need-cast-rows Inv-loop μ-loop
+cast-rows c = search needs
+
+mul-rows : tie.Need-mul-rows Inv-loop μ-loop
+mul-rows c = search needs
+
+array-write-rows : tie.Need-array-write-rows Inv-loop μ-loop
+array-write-rows c = search needs
+
+add-i : tie.Need-add-i Inv-loop μ-loop
+add-i c = search needs
+
+loop-less : tie.Need-loop-less Inv-loop μ-loop
+loop-less c = search needs
+
+loop-again : tie.Need-loop-again Inv-loop μ-loop
+loop-again c = search made-more
+
+returns : tie.Need-returns Inv-loop μ-loop
+returns c = search rows-made
+
+pub clash-rows-spec : {M : Type 1} → statement M
+clash-rows-spec =
+    tie.close
+    (tie.spec
+    Inv-loop
+    μ-loop
+    ballots-of-requires
+    loop-holds
+    mask-by-requires
+    cast-rows
+    mul-rows
+    array-write-rows
+    add-i
+    loop-less
+    loop-again
+    returns)

@@ -1,0 +1,14 @@
+-- A shift by less than 64 loses nothing.
+use borrow.Author.Needs.{needs}
+use Rattle.base.proofs.Masks.{shifted}
+use Rattle.clash.proofs.rows.worth.Statement.{statement}
+use Rattle.clash.proofs.rows.worth.Tie as tie
+
+shl-result : tie.Need-shl-result
+shl-result c = search needs
+
+returns : tie.Need-returns
+returns c = shifted _ (c .pre)
+
+pub worth-spec : {M : Type 1} → statement M
+worth-spec = tie.close (tie.spec shl-result returns)

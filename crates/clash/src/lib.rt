@@ -1,0 +1,90 @@
+// When two items clash: by their kinds, by their texts and by their numbers; and the rows of clashes, made once for a table.
+// It uses ballot to read items, header for their number, and base.
+ghost use mathlib.Core.Path.{_≡_};
+ghost use Rattle.clash.specs.Clash.{isVote, isCancellation, kindsClash, itemsClash, readingsClash};
+ghost use Rattle.clash.specs.Clash.{clash, clashIn};
+use ballot::item::Item;
+use ballot::item::Kind;
+use ballot::item::Reading;
+
+pub mod rows; // what clashes with each item
+
+// Whether the kind is a vote.
+fn is_vote(k: Kind) -> bool
+    ensures { λ r. ⌜ r ≡ isVote k ⌝ }
+{
+    match k {
+        Kind::Vote(_) => true,
+        Kind::Audit => false,
+        Kind::Cancellation => false,
+    }
+}
+
+// Whether the kind is a cancellation.
+fn is_cancellation(k: Kind) -> bool
+    ensures { λ r. ⌜ r ≡ isCancellation k ⌝ }
+{
+    match k {
+        Kind::Vote(_) => false,
+        Kind::Audit => false,
+        Kind::Cancellation => true,
+    }
+}
+
+// Whether neither is a cancellation, and at least one is a vote.
+fn kinds_clash(a: Kind, b: Kind) -> bool
+    ensures { λ r. ⌜ r ≡ kindsClash a b ⌝ }
+{
+    if is_cancellation(a) {
+        return false;
+    }
+    if is_cancellation(b) {
+        return false;
+    }
+    if is_vote(a) {
+        return true;
+    }
+    is_vote(b)
+}
+
+// Whether they are of one ballot, with kinds that clash.
+fn items_clash(a: Item, b: Item) -> bool
+    ensures { λ r. ⌜ r ≡ itemsClash a b ⌝ }
+{
+    if a.ballot != b.ballot {
+        return false;
+    }
+    let ka = a.kind;
+    let kb = b.kind;
+    kinds_clash(ka, kb)
+}
+
+// Whether both are items, and these clash.
+fn readings_clash(x: Reading, y: Reading) -> bool
+    ensures { λ r. ⌜ r ≡ readingsClash x y ⌝ }
+{
+    match x {
+        Reading::Good(a) => match y {
+            Reading::Good(b) => items_clash(a, b),
+            Reading::Wrong => false,
+        },
+        Reading::Wrong => false,
+    }
+}
+
+// Whether the items with these texts clash.
+pub fn clashes(a: &[u8], b: &[u8]) -> bool
+    ensures { λ r. ⌜ r ≡ clash (now (a .entry)) (now (b .entry)) ⌝ }
+{
+    if base::same(a, b) {
+        return false;
+    }
+    readings_clash(ballot::item::read_item(a), ballot::item::read_item(b))
+}
+
+// Whether items i and j of the table clash.
+pub fn clash_in(table: &[u8], i: u8, j: u8) -> bool
+    ensures { λ r. ⌜ r ≡ clashIn (now (table .entry)) i j ⌝ }
+{
+    clashes(ballot::item_text(table, i), ballot::item_text(table, j))
+}

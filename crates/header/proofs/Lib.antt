@@ -1,0 +1,3 @@
+pub mod Fields
+pub mod TwoThirds
+pub mod Ranges

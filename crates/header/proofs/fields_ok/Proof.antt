@@ -1,0 +1,59 @@
+-- The fields are judged in the definition's order: those before the one that fails hold.
+use mathlib.Core.Path.{refl, sym, _∙_}
+use borrow.Author.Needs.{needs}
+use borrow.Author.Tests.{not-false}
+use Rattle.header.specs.Header.{fieldsOk}
+use Rattle.base.proofs.Returns.{fails, holds}
+use Rattle.header.proofs.Fields.{peers-most}
+use Rattle.header.proofs.fields_ok.Statement.{statement}
+use Rattle.header.proofs.fields_ok.Tie as tie
+
+threshold-ok-requires : tie.Need-threshold-ok-requires
+threshold-ok-requires c κs = search needs
+
+returns : tie.Need-returns
+unfolding fieldsOk
+returns c = fails _ (c .before .threshold-ok .ensures) (c .if1 .taken)
+
+none-above-requires : tie.Need-none-above-requires
+none-above-requires c κs = peers-most _ _ (sym (c .before .threshold-ok .ensures) ∙ not-false _ (c .if1 .left))
+
+returns-2 : tie.Need-returns-2
+unfolding fieldsOk
+returns-2 c =
+    let threshold = c .before .before in
+    holds _ _ (threshold .before .threshold-ok .ensures) (threshold .if1 .left)
+    (fails _ (c .before .none-above .ensures) (c .if2 .taken))
+
+is-between-requires : tie.Need-is-between-requires
+is-between-requires c κs = search needs
+
+returns-3 : tie.Need-returns-3
+unfolding fieldsOk
+returns-3 c =
+    let honest = c .before .before in
+    let threshold = honest .before .before in
+    holds _ _ (threshold .before .threshold-ok .ensures) (threshold .if1 .left)
+    (holds _ _ (honest .before .none-above .ensures) (honest .if2 .left)
+    (fails _ (c .before .is-between .ensures) (c .if3 .taken)))
+
+returns-4 : tie.Need-returns-4
+unfolding fieldsOk
+returns-4 c =
+    let honest = c .before .before in
+    let threshold = honest .before .before in
+    holds _ _ (threshold .before .threshold-ok .ensures) (threshold .if1 .left)
+    (holds _ _ (honest .before .none-above .ensures) (honest .if2 .left)
+    (holds _ _ (c .before .is-between .ensures) (c .if3 .left) refl))
+
+pub fields-ok-spec : {M : Type 1} → statement M
+fields-ok-spec =
+    tie.close
+    (tie.spec
+    threshold-ok-requires
+    returns
+    none-above-requires
+    returns-2
+    is-between-requires
+    returns-3
+    returns-4)

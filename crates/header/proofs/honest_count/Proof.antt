@@ -1,0 +1,70 @@
+-- The peers are counted one after the other: among the first k are `count` honest ones.
+use Prim.Native.Nat.{_≤_, _-_}
+use mathlib.Core.Path.{_≡_, sym, _∙_}
+use native.Mathlib.Omega.{arith}
+use borrow.Author.Needs.{needs}
+use Rattle.base.specs.Weight.{weight, ones}
+use Rattle.base.proofs.Weight.{count-none, count-in, count-out}
+use Rattle.header.specs.Header.{isHonest}
+use Rattle.base.proofs.Returns.{count-end}
+use Rattle.header.proofs.honest_count.Statement.{statement}
+use Rattle.header.proofs.honest_count.Tie as tie
+
+abbrev Inv-loop : tie.InvT-loop
+Inv-loop table n count₀ k₀ count k = (k ≤ n) × (count ≤ k) × (count ≡ weight ones k (isHonest table))
+
+abbrev μ-loop : tie.MeasureT-loop
+μ-loop table n count₀ k₀ count k = n - k
+
+peers-requires : tie.Need-peers-requires Inv-loop μ-loop
+peers-requires c κs = search needs
+
+loop-holds : tie.Need-loop-holds Inv-loop μ-loop
+loop-holds c = (omega arith, omega arith, count-none _)
+
+add-k : tie.Need-add-k Inv-loop μ-loop
+add-k c = omega arith
+
+is-honest-requires : tie.Need-is-honest-requires Inv-loop μ-loop
+is-honest-requires c κs = search needs
+
+add-count : tie.Need-add-count Inv-loop μ-loop
+add-count c = omega arith
+
+loop-less : tie.Need-loop-less Inv-loop μ-loop
+loop-less c = omega arith
+
+loop-again : tie.Need-loop-again Inv-loop μ-loop
+loop-again c =
+    let l = c .before .before .before .loop in
+    let one-more = count-in (isHonest _) (l .k) (sym (c .before .is-honest .ensures) ∙ c .if1 .taken) in
+    omega arith
+
+loop-less-2 : tie.Need-loop-less-2 Inv-loop μ-loop
+loop-less-2 c = omega arith
+
+loop-again-2 : tie.Need-loop-again-2 Inv-loop μ-loop
+loop-again-2 c =
+    let l = c .before .before .before .loop in
+    let no-more = count-out (isHonest _) (l .k) (sym (c .before .is-honest .ensures) ∙ c .if1 .left) in
+    omega arith
+
+returns : tie.Need-returns Inv-loop μ-loop
+returns c = let l = c .before .loop in count-end (isHonest _) (l .k) _ (omega arith) (l .inv .2)
+
+pub honest-count-spec : {M : Type 1} → statement M
+honest-count-spec =
+    tie.close
+    (tie.spec
+    Inv-loop
+    μ-loop
+    peers-requires
+    loop-holds
+    add-k
+    is-honest-requires
+    add-count
+    loop-less
+    loop-again
+    loop-less-2
+    loop-again-2
+    returns)

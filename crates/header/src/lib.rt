@@ -1,0 +1,155 @@
+// The ballot table's header: its fields, and whether each is in range.
+// It uses the crate base and no other.
+ghost use mathlib.Core.Path.{_≡_};
+ghost use Prim.Native.Nat.{_≤_};
+ghost use Rattle.header.specs.Header.{headerSize, fieldOf, peersOf, thresholdOf, honestOf, periodsOf, itemsOf};
+ghost use Rattle.header.specs.Header.{isHonest, honestCount, leastThreshold, noneAbove, thresholdOk, fieldsOk, headerOk};
+ghost use Rattle.base.specs.Bytes.{between};
+
+// The header's length in bytes, the same for every table.
+pub fn header_size(table: &[u8]) -> u8
+    ensures { λ r. ⌜ r ≡ headerSize (now (table .entry)) ⌝ }
+{
+    6
+}
+
+// Byte i of the header: every field is read through it.
+fn field(table: &[u8], i: usize) -> u8
+    ensures { λ r. ⌜ r ≡ fieldOf (now (table .entry)) i ⌝ }
+{
+    base::byte_at(table, i)
+}
+
+// n, the number of peers.
+pub fn peers(table: &[u8]) -> u8
+    ensures { λ r. ⌜ r ≡ peersOf (now (table .entry)) ⌝ }
+{
+    field(table, 0)
+}
+
+// t, the threshold.
+pub fn threshold(table: &[u8]) -> u8
+    ensures { λ r. ⌜ r ≡ thresholdOf (now (table .entry)) ⌝ }
+{
+    field(table, 1)
+}
+
+// The honest set: bit k - 1 is peer k.
+pub fn honest(table: &[u8]) -> u16
+    ensures { λ r. ⌜ r ≡ honestOf (now (table .entry)) ⌝ }
+{
+    let high = field(table, 2);
+    let low = field(table, 3);
+    (high as u16) * 256 + (low as u16)
+}
+
+// P, the number of periods.
+pub fn periods(table: &[u8]) -> u8
+    ensures { λ r. ⌜ r ≡ periodsOf (now (table .entry)) ⌝ }
+{
+    field(table, 4)
+}
+
+// m, the number of items.
+pub fn items(table: &[u8]) -> u8
+    ensures { λ r. ⌜ r ≡ itemsOf (now (table .entry)) ⌝ }
+{
+    field(table, 5)
+}
+
+// Whether peer k is honest. The set has 16 bits.
+pub fn is_honest(table: &[u8], k: u8) -> bool
+    ensures { λ r. ⌜ r ≡ isHonest (now (table .entry)) k ⌝ }
+{
+    if k == 0 {
+        return false;
+    }
+    let set = honest(table);
+    if 16 < k {
+        return false;
+    }
+    (set >> (k - 1)) % 2 == 1
+}
+
+// h, the number of honest peers.
+pub fn honest_count(table: &[u8]) -> u8
+    ensures { λ r. ⌜ r ≡ honestCount (now (table .entry)) ⌝ }
+{
+    let n = peers(table);
+    let mut count: u8 = 0;
+    let mut k: u8 = 0;
+    while k < n {
+        k += 1;
+        if is_honest(table, k) {
+            count += 1;
+        }
+    }
+    count
+}
+
+// The least threshold for 1 to 16 peers.
+const LEAST: [u8; 16] = [1, 2, 3, 3, 4, 5, 5, 6, 7, 7, 8, 9, 9, 10, 11, 11];
+
+// The least threshold for n peers.
+fn least(n: u8) -> u8
+    requires { ⌜ (1 ≤ n) × (n ≤ 16) ⌝ }
+    ensures { λ r. ⌜ r ≡ leastThreshold n ⌝ }
+{
+    LEAST[(n - 1) as usize]
+}
+
+// Whether no bit of the set stands above peer n.
+fn none_above(n: u8, set: u16) -> bool
+    requires { ⌜ n ≤ 16 ⌝ }
+    ensures { λ r. ⌜ r ≡ noneAbove n set ⌝ }
+{
+    (set as u32) >> n == 0
+}
+
+// Whether x is low, high or a number between them.
+fn is_between(low: u8, x: u8, high: u8) -> bool
+    ensures { λ r. ⌜ r ≡ between low x high ⌝ }
+{
+    if x < low {
+        return false;
+    }
+    x <= high
+}
+
+// Whether there are 1 to 16 peers, and t runs from the least threshold for them to all of them.
+fn threshold_ok(n: u8, t: u8) -> bool
+    ensures { λ r. ⌜ r ≡ thresholdOk n t ⌝ }
+{
+    if !is_between(1, n, 16) {
+        return false;
+    }
+    is_between(least(n), t, n)
+}
+
+// Whether every field is in range.
+fn fields_ok(n: u8, t: u8, honest: u16, periods: u8, items: u8) -> bool
+    ensures { λ r. ⌜ r ≡ fieldsOk n t honest periods items ⌝ }
+{
+    if !threshold_ok(n, t) {
+        return false;
+    }
+    if !none_above(n, honest) {
+        return false;
+    }
+    if !is_between(1, periods, 8) {
+        return false;
+    }
+    items <= 64
+}
+
+// Whether the header is whole, and every field of it in range.
+pub fn header_ok(table: &[u8]) -> bool
+    ensures { λ r. ⌜ r ≡ headerOk (now (table .entry)) ⌝ }
+{
+    if table.len() < header_size(table) as usize {
+        return false;
+    }
+    let n = peers(table);
+    let t = threshold(table);
+    fields_ok(n, t, honest(table), periods(table), items(table))
+}
