@@ -9,8 +9,8 @@ use Rattle.base.specs.Bits.{bit}
 use Rattle.base.proofs.Below.{any-ext}
 use Rattle.base.proofs.Bits.{bit-pack}
 use Rattle.base.proofs.Truth.{split}
-use Rattle.ballot.specs.Header.{itemsOf}
-use Rattle.ballot.specs.Clash.{clashIn, maskWidth, clashMask}
+use Rattle.header.specs.Header.{itemsOf}
+use Rattle.clash.specs.Clash.{clashIn, maskWidth, clashMask}
 use Rattle.rules.specs.declared.Step.{Step}
 use Rattle.rules.specs.declared.Step.the-variants.{Post, Hand, Sign, Take, Share, Receipt, Close, Fetch, SendHash, Hear, Back, Publish, FalseSignature, FalseShare, FalseHash, FalseBacking, Down, Up}
 use Rattle.rules.specs.Table.{clashing}

@@ -2,11 +2,11 @@
 // Rows of clashes may be handed in, made once for many steps; where there is no row of an item, its row is made anew.
 // It uses steps, and of ballot only what clashes.
 ghost use mathlib.Core.Path.{_≡_};
-ghost use Rattle.ballot.specs.Header.{itemsOf};
-ghost use Rattle.ballot.specs.Clash.{clashIn, RowsOf};
+ghost use Rattle.header.specs.Header.{itemsOf};
+ghost use Rattle.clash.specs.Clash.{clashIn, RowsOf};
 ghost use Rattle.view.specs.Ready.{Ready};
 ghost use Rattle.steps.specs.Stepped.{Stepped};
-use ballot::clash::clash_row;
+use clash::rows::clash_row;
 use rules::Step;
 use steps::ballots;
 use steps::closing;

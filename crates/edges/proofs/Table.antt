@@ -5,11 +5,11 @@ use Rattle.base.specs.Below.{every}
 use Rattle.base.specs.Bits.{bit, pack}
 use Rattle.base.specs.Weight.{weight}
 use Rattle.base.specs.Bytes.{numberAt, part, sameBytes}
-use Rattle.ballot.specs.Header.{isHonest, leastThreshold, thresholdOk, fieldsOk, headerOk}
-use Rattle.ballot.specs.Pairs.{endBefore, startsAtEnd, pairsFit, pairsOk}
+use Rattle.header.specs.Header.{isHonest, leastThreshold, thresholdOk, fieldsOk, headerOk}
+use Rattle.pairs.specs.Pairs.{endBefore, startsAtEnd, pairsFit, pairsOk}
 use Rattle.ballot.specs.Item.{readKind, readItem}
 use Rattle.ballot.specs.Table.{tablePairsOk, itemOk, itemsOk, differ, newAt, noTwins, refusal}
-use Rattle.ballot.specs.Clash.{clash, clashIn, clashMask}
+use Rattle.clash.specs.Clash.{clash, clashIn, clashMask}
 use Rattle.edges.specs.Marked.{TableEdges, TableCases}
 
 pub table-edges : TableEdges

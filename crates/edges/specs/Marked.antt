@@ -3,9 +3,9 @@ use mathlib.Core.Bool.{true, false}
 use mathlib.Core.List.{[], _∷_, _++_}
 use mathlib.Core.Path.{_≡_}
 use lib.ListN.{replicate}
-use Rattle.ballot.specs.Header.{honestCount}
+use Rattle.header.specs.Header.{honestCount}
 use Rattle.ballot.specs.Table.{refusal}
-use Rattle.ballot.specs.Clash.{clash, clashMask}
+use Rattle.clash.specs.Clash.{clash, clashMask}
 use Rattle.edges.specs.Tables.{empty, single, item, vote, audit, cancellation, twoFives, three, caseR}
 
 -- the table's marked cases: 0 is taken, 1 header, 3 item

@@ -6,8 +6,8 @@ use mathlib.Core.List.{List, []}
 use mathlib.Core.Path.{_≡_, refl, sym, ap, subst, _∙_}
 use lib.ListN.{length, replicate}
 use borrow.Author.Tests.{eq-eqb, ne-eqb}
-use Rattle.ballot.specs.Header.{peersOf, thresholdOf, honestOf, periodsOf, itemsOf}
-use Rattle.ballot.specs.Clash.{clashIn}
+use Rattle.header.specs.Header.{peersOf, thresholdOf, honestOf, periodsOf, itemsOf}
+use Rattle.clash.specs.Clash.{clashIn}
 use Rattle.ballot.specs.Table.{refusal}
 use Rattle.ballot.proofs.Sound.{sound}
 use Rattle.bits.specs.Row.{Bytes}

@@ -7,7 +7,7 @@ use mathlib.Core.Logic.{_⊎_, inl, inr}
 use lib.Dec.{eqb}
 use borrow.Author.Tests.{eqb-true}
 use Rattle.base.proofs.Truth.{either}
-use Rattle.ballot.specs.Clash.{clashIn}
+use Rattle.clash.specs.Clash.{clashIn}
 use Rattle.ballot.specs.Table.{refusal}
 use Rattle.rules.specs.declared.Step.{Step}
 use Rattle.rules.specs.declared.Call.{Call}

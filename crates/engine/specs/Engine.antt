@@ -5,8 +5,8 @@ use mathlib.Core.List.{List}
 use mathlib.Core.Path.{_≡_}
 use lib.Dec.{eqb}
 use lib.ListN.{length, replicate}
-use Rattle.ballot.specs.Header.{peersOf, thresholdOf, honestOf, periodsOf, itemsOf}
-use Rattle.ballot.specs.Clash.{clashIn, RowsOf}
+use Rattle.header.specs.Header.{peersOf, thresholdOf, honestOf, periodsOf, itemsOf}
+use Rattle.clash.specs.Clash.{clashIn, RowsOf}
 use Rattle.ballot.specs.Table.{refusal}
 use Rattle.rules.specs.declared.Call.{Call}
 use Rattle.rules.specs.declared.Call.the-variants.{Formed, Malformed}

@@ -1,11 +1,10 @@
 // The engine: fresh and step, for any bytes. The table and the state are validated once for each call; the inner step re-validates nothing.
-// It uses ballot to judge the table, valid to judge the state, and advance for the step.
+// It uses header to read the table, ballot to judge it, valid to judge the state, and advance for the step.
 ghost use mathlib.Core.Path.{_≡_};
 ghost use lib.ListN.{length, replicate};
 ghost use Rattle.view.specs.Ready.{Ready};
 ghost use Rattle.engine.specs.Engine.{headOf, Prepared, stepAnswer, stepBytes, freshAnswer, freshBytes};
 use ballot::check_table;
-use ballot::header;
 use rules::Call;
 use state::layout::SIZE;
 use view::Head;

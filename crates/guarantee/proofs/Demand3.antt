@@ -5,10 +5,10 @@ use mathlib.Core.List.{List, [], _∷_}
 use mathlib.Core.Path.{_≡_, refl, sym, ap, ap₂, subst, fun-ext, _∙_}
 use Rattle.base.specs.Weight.{ones}
 use Rattle.base.proofs.Weight.{weight-ext}
-use Rattle.ballot.specs.Header.{peersOf, thresholdOf, honestOf, isHonest, honestCount}
-use Rattle.ballot.specs.Clash.{clashIn}
+use Rattle.header.specs.Header.{peersOf, thresholdOf, honestOf, isHonest, honestCount}
+use Rattle.clash.specs.Clash.{clashIn}
 use Rattle.ballot.specs.Table.{refusal}
-use Rattle.ballot.proofs.Clashes.{clash-in-sym, clash-in-self}
+use Rattle.clash.proofs.Relation.{clash-in-sym, clash-in-self}
 use Rattle.ballot.proofs.Sound.{sound}
 use Rattle.rules.specs.Table.{Table}
 use Rattle.rules.specs.State.{State, fresh}

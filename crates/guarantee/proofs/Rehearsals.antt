@@ -3,7 +3,7 @@ use Prim.Native.Nat.{ℕ, zero, suc, _+_, _≤_}
 use native.Mathlib.Omega.{arith}
 use mathlib.Core.List.{List, []}
 use mathlib.Core.Path.{_≡_, refl, sym, ap, ap₂, _∙_}
-use Rattle.ballot.specs.Header.{thresholdOf, honestCount}
+use Rattle.header.specs.Header.{thresholdOf, honestCount}
 use Rattle.rules.specs.Form.{read}
 use Rattle.rules.specs.Ideal.{Fed}
 use Rattle.rules.specs.Run.{World, seenWith, runFrom}

@@ -37,7 +37,7 @@ pub fn judge_hand(s: &[u8], h: Head, row: u64, j: u8, x: u8) -> u8
     if guard::items::not_posted(s, x) {
         return 10;
     }
-    if guard::clash::holds_clash(s, h, row, j, x) {
+    if guard::held::holds_clash(s, h, row, j, x) {
         return 11;
     }
     0

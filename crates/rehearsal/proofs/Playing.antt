@@ -6,8 +6,8 @@ use mathlib.Core.List.{List, []}
 use mathlib.Core.Path.{_≡_, refl, sym, ap, subst, _∙_}
 use lib.ListN.{length, replicate}
 use borrow.Author.Tests.{eq-eqb, ne-eqb}
-use Rattle.ballot.specs.Header.{peersOf, thresholdOf, honestCount}
-use Rattle.ballot.specs.Clash.{clashIn, RowsOf}
+use Rattle.header.specs.Header.{peersOf, thresholdOf, honestCount}
+use Rattle.clash.specs.Clash.{clashIn, RowsOf}
 use Rattle.ballot.specs.Table.{refusal}
 use Rattle.state.specs.Layout.{size}
 use Rattle.state.specs.Contents.{contents, Canon}

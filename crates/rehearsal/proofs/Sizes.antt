@@ -10,10 +10,10 @@ use lib.ListN.{length, length-append}
 use borrow.Author.Tests.{eqb-true}
 use Rattle.base.specs.Refusals.{Refusals, first}
 use Rattle.base.proofs.Truth.{either}
-use Rattle.ballot.specs.Header.{peersOf, thresholdOf, honestCount}
-use Rattle.ballot.specs.Clash.{clashIn}
+use Rattle.header.specs.Header.{peersOf, thresholdOf, honestCount}
+use Rattle.clash.specs.Clash.{clashIn}
 use Rattle.ballot.specs.Table.{tableRefusals}
-use Rattle.ballot.proofs.Fields.{honest-most}
+use Rattle.header.proofs.Fields.{honest-most}
 use Rattle.ballot.proofs.Sound.{sound}
 use Rattle.rules.specs.declared.Step.{Step}
 use Rattle.rules.specs.declared.Step.the-variants.{Post, Hand, Sign, Take, Share, Receipt, Close, Fetch, SendHash, Hear, Back, Publish, FalseSignature, FalseShare, FalseHash, FalseBacking, Down, Up}

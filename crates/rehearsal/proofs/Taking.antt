@@ -8,8 +8,8 @@ use lib.ListN.{length}
 use borrow.Author.Tests.{leb-true, ltb-false, not-false}
 use Rattle.base.proofs.Truth.{and-r}
 use Rattle.base.proofs.Refusals.{Passed, passed, none-holds}
-use Rattle.ballot.specs.Header.{headerSize, itemsOf}
-use Rattle.ballot.specs.Pairs.{pairsFit}
+use Rattle.header.specs.Header.{headerSize, itemsOf}
+use Rattle.pairs.specs.Pairs.{pairsFit}
 use Rattle.ballot.specs.Table.{tableRefusals, refusal}
 use Rattle.rehearsal.specs.Input.{inputMost, tableEnd, tableIn, tableThere, inputRefusals, inputRefusal}
 use Rattle.rehearsal.specs.Running.{Taken}

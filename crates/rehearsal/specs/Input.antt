@@ -6,8 +6,8 @@ use lib.Dec.{leb, ltb}
 use lib.ListN.{length}
 use Rattle.base.specs.Bytes.{part}
 use Rattle.base.specs.Refusals.{Refusals, first}
-use Rattle.ballot.specs.Header.{headerSize, itemsOf, headerOk}
-use Rattle.ballot.specs.Pairs.{pairsFit, lastEnd}
+use Rattle.header.specs.Header.{headerSize, itemsOf, headerOk}
+use Rattle.pairs.specs.Pairs.{pairsFit, lastEnd}
 use Rattle.ballot.specs.Table.{tableRefusals}
 
 -- the most bytes that are judged

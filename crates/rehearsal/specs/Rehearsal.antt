@@ -4,7 +4,7 @@ use mathlib.Core.Bool.{Bool, cond, _&&_}
 use mathlib.Core.List.{List, [], _++_}
 use lib.Dec.{eqb}
 use lib.ListN.{length}
-use Rattle.ballot.specs.Header.{peersOf, thresholdOf, honestCount}
+use Rattle.header.specs.Header.{peersOf, thresholdOf, honestCount}
 use Rattle.state.specs.Layout.{size}
 use Rattle.state.specs.Contents.{contents}
 use Rattle.text.specs.Wrote.{each}

@@ -4,8 +4,6 @@ ghost use Prim.Native.Nat.{_≤_};
 ghost use lib.ListN.{length};
 ghost use Rattle.rehearsal.specs.Input.{inputMost, tableEnd, tableIn, tableThere, inputRefusal, stepCount, callAt};
 use crate::INPUT_MOST;
-use ballot::header;
-use ballot::pairs;
 
 const STEP_SIZE: usize = 13;
 

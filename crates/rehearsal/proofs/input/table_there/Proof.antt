@@ -1,5 +1,5 @@
 -- The pairs are judged first, and then the end.
-use Rattle.ballot.proofs.Returns.{fails, holds}
+use Rattle.base.proofs.Returns.{fails, holds}
 use Rattle.rehearsal.specs.Input.{tableThere}
 use borrow.Author.Needs.{needs}
 use Rattle.rehearsal.proofs.input.table_there.Statement.{statement}

@@ -1,8 +1,8 @@
 -- By `clash-meets`.
 use Rattle.guard.proofs.Rows.{clash-meets}
 use borrow.Author.Needs.{needs}
-use Rattle.guard.proofs.clash.holds_clash.Statement.{statement}
-use Rattle.guard.proofs.clash.holds_clash.Tie as tie
+use Rattle.guard.proofs.held.holds_clash.Statement.{statement}
+use Rattle.guard.proofs.held.holds_clash.Tie as tie
 
 ever-holds-requires : tie.Need-ever-holds-requires
 ever-holds-requires c κs = search needs

@@ -1,7 +1,7 @@
 use Rattle.guard.specs.Meet.{holdsOf}
 use borrow.Author.Needs.{needs}
-use Rattle.guard.proofs.clash.holds_of.Statement.{statement}
-use Rattle.guard.proofs.clash.holds_of.Tie as tie
+use Rattle.guard.proofs.held.holds_of.Statement.{statement}
+use Rattle.guard.proofs.held.holds_of.Tie as tie
 
 held-in-requires : tie.Need-held-in-requires
 held-in-requires c κs = search needs

@@ -1,8 +1,8 @@
 -- By `and-meets`.
 use native.Mathlib.Omega.{arith}
 use Rattle.guard.proofs.Rows.{and-meets}
-use Rattle.guard.proofs.clash.sets_meet.Statement.{statement}
-use Rattle.guard.proofs.clash.sets_meet.Tie as tie
+use Rattle.guard.proofs.held.sets_meet.Statement.{statement}
+use Rattle.guard.proofs.held.sets_meet.Tie as tie
 
 returns : tie.Need-returns
 returns c = and-meets (c .args .a) (c .args .b) (omega arith) (omega arith)

@@ -8,8 +8,8 @@ use Rattle.base.specs.Below.{any}
 use Rattle.base.proofs.Below.{any-none, any-more, any-at, any-end}
 use Rattle.state.specs.Contents.{contents}
 use Rattle.guard.specs.Meet.{holdsOf}
-use Rattle.guard.proofs.clash.ever_holds.Statement.{statement}
-use Rattle.guard.proofs.clash.ever_holds.Tie as tie
+use Rattle.guard.proofs.held.ever_holds.Statement.{statement}
+use Rattle.guard.proofs.held.ever_holds.Tie as tie
 
 abbrev Inv-loop : tie.InvT-loop
 Inv-loop s row j periods q₀ q = (q ≤ periods) × (any q (holdsOf (contents s) row j) ≡ false)
