@@ -2,18 +2,14 @@
 use Prim.Native.Nat.{ℕ, zero, suc, _-_, _/_, _%_, _^_, _<_, _≤_}
 use native.Mathlib.Nat.{div-lt-iff-lt-mul}
 use native.Mathlib.Omega.{arith}
-use mathlib.Core.Bool.{Bool, true, false, _||_, not, and-true, and-false}
-use mathlib.Core.List.{List}
+use mathlib.Core.Bool.{Bool, true, false, _||_, not}
 use mathlib.Core.Path.{_≡_, refl, sym, ap, ap₂, _∙_}
 use mathlib.Core.Logic.{_⊎_, inl, inr}
 use lib.Dec.{eqb, leb, ltb}
-use lib.ListN.{length}
 use lib.Pow.{pow-pos}
-use borrow.Author.Tests.{eq-eqb, ne-eqb, eqb-true, le-leb, lt-leb, leb-true, leb-false, ltb-true, lt-ltb, le-ltb}
+use borrow.Author.Tests.{eq-eqb, ne-eqb, eqb-true, le-leb, leb-true, leb-false, ltb-true, lt-ltb, le-ltb}
 use Rattle.base.proofs.Truth.{either, iff, or-l}
 use Rattle.base.proofs.Bits.{bit-shr, bit-high}
-use Rattle.rules.specs.declared.Entry.{Entry}
-use Rattle.rules.specs.Bag.{isIn, capacity, isFull}
 use Rattle.view.specs.View.{member}
 
 -- m is at most a exactly if a is not below m
@@ -81,13 +77,3 @@ board-some B m = ap not (iff _ _ (λ e. lt-ltb B (2 ^ m) (small (eqb-true (B / 2
 
     none : B < 2 ^ m → B / 2 ^ m ≡ 0
     none l = omega (arith, div-lt-iff-lt-mul {k = 2 ^ m} {x = B} {y = 1} (pow-pos m) .1 (omega arith))
-
--- the bag
-
-pub full-room : (x : Entry) (bag : List Entry) (n : ℕ) → n ≡ length bag → n < capacity → false ≡ isFull x bag
-unfolding isFull
-full-room x bag n l r = rw (lt-leb capacity (length bag) (omega arith)) (sym (and-false (not (isIn x bag))))
-
-pub full-at : (x : Entry) (bag : List Entry) (n : ℕ) {r : Bool} → n ≡ length bag → capacity ≤ n → r ≡ isIn x bag → not r ≡ isFull x bag
-unfolding isFull
-full-at x bag n {r} l m e = rw (← e, le-leb capacity (length bag) (omega arith)) (sym (and-true (not r)))

@@ -1,2 +1,1 @@
 pub mod Meet
-pub mod Support

@@ -98,10 +98,10 @@ pub fn judge_hear(s: &[u8], h: Head, j: u8, e: u8) -> u8
     if guard::periods::is_down(s, j) {
         return 8;
     }
-    if guard::bag::not_hash(s, e) {
+    if support::entry::not_hash(s, e) {
         return 10;
     }
-    if guard::bag::entry_not_closed(s, j, e) {
+    if support::entry::entry_not_closed(s, j, e) {
         return 9;
     }
     0
@@ -123,7 +123,7 @@ pub fn judge_back(s: &[u8], h: Head, j: u8, c: u8, board: u64) -> u8
     if guard::periods::all_backed(s, j) {
         return 9;
     }
-    if crate::own::few_own_hearers(s, h, j, c, board) {
+    if crate::own::few_heard_own(s, h, j, c, board) {
         return 12;
     }
     if crate::own::backing_full(s, h, j, c, board) {
@@ -136,13 +136,13 @@ pub fn judge_publish(s: &[u8], h: Head, e: u8) -> u8
     requires { ⌜ Ready h (now s) ⌝ }
     ensures { λ r. ⌜ r ≡ answerOn h noClash (now (s .entry)) (Publish e) ⌝ }
 {
-    if guard::bag::not_backing(s, e) {
+    if support::entry::not_backing(s, e) {
         return 10;
     }
-    if guard::boards::few_backers_of(s, h, e) {
+    if support::boards::few_backers_of(s, h, e) {
         return 12;
     }
-    if guard::boards::no_room_for_board(s, e) {
+    if support::boards::no_room_for_board(s, e) {
         return 13;
     }
     0

@@ -66,10 +66,10 @@ pub fn judge_false_hash(s: &[u8], h: Head, j: u8, p: u8, board: u64) -> u8
     if guard::names::is_honest(h, j) {
         return 7;
     }
-    if guard::boards::unposted(s, h, board) {
+    if support::boards::unposted(s, h, board) {
         return 10;
     }
-    if guard::bag::is_full(s, Entry::Hash(j, p, board)) {
+    if support::entry::is_full(s, Entry::Hash(j, p, board)) {
         return 13;
     }
     0
@@ -91,10 +91,10 @@ pub fn judge_false_backing(s: &[u8], h: Head, j: u8, p: u8, board: u64) -> u8
     if guard::names::is_honest(h, j) {
         return 7;
     }
-    if guard::boards::unposted(s, h, board) {
+    if support::boards::unposted(s, h, board) {
         return 10;
     }
-    if guard::bag::is_full(s, Entry::Backing(j, p, board)) {
+    if support::entry::is_full(s, Entry::Backing(j, p, board)) {
         return 13;
     }
     0

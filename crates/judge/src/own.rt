@@ -17,15 +17,15 @@ pub fn hash_full(s: &[u8], h: Head, j: u8, p: u8, board: u64) -> bool
     requires { ⌜ Ready h (now s) × (board ≡ boardOn h (now s) j p) ⌝ }
     ensures { λ r. ⌜ r ≡ isFull (Hash j p (boardOn h (now (s .entry)) j p)) (contents (now (s .entry)) .bag) ⌝ }
 {
-    guard::bag::is_full(s, Entry::Hash(j, p, board))
+    support::entry::is_full(s, Entry::Hash(j, p, board))
 }
 
 // Fewer than t signers among the hashes that peer j heard have its board of period c.
-pub fn few_own_hearers(s: &[u8], h: Head, j: u8, c: u8, board: u64) -> bool
+pub fn few_heard_own(s: &[u8], h: Head, j: u8, c: u8, board: u64) -> bool
     requires { ⌜ Ready h (now s) × (c ≡ contents (now s) .number (NextOf j)) × (board ≡ boardOn h (now s) j (contents (now s) .number (NextOf j))) ⌝ }
     ensures { λ r. ⌜ r ≡ not (leb (h .t) (weight ones (h .n) (λ k. stateOf (contents (now (s .entry))) .heard j k (contents (now (s .entry)) .number (NextOf j)) (boardOn h (now (s .entry)) j (contents (now (s .entry)) .number (NextOf j)))))) ⌝ }
 {
-    guard::support::few_hearers(s, h, j, c, board)
+    support::signers::few_heard(s, h, j, c, board)
 }
 
 // There is no room for peer j's backing of period c.
@@ -33,5 +33,5 @@ pub fn backing_full(s: &[u8], h: Head, j: u8, c: u8, board: u64) -> bool
     requires { ⌜ Ready h (now s) × (c ≡ contents (now s) .number (NextOf j)) × (board ≡ boardOn h (now s) j (contents (now s) .number (NextOf j))) ⌝ }
     ensures { λ r. ⌜ r ≡ isFull (Backing j (contents (now (s .entry)) .number (NextOf j)) (boardOn h (now (s .entry)) j (contents (now (s .entry)) .number (NextOf j)))) (contents (now (s .entry)) .bag) ⌝ }
 {
-    guard::bag::is_full(s, Entry::Backing(j, c, board))
+    support::entry::is_full(s, Entry::Backing(j, c, board))
 }

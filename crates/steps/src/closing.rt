@@ -67,7 +67,7 @@ pub fn step_send_hash(s: &mut [u8], h: Head, j: u8, p: u8) -> u8
     requires { ⌜ Ready h (now s) ⌝ }
     ensures { λ r. ⌜ Stepped h noClash (now (s .entry)) (now (s .exit)) (SendHash j p) r ⌝ }
 {
-    let board = guard::boards::board_by(s, h, j, p);
+    let board = support::boards::board_by(s, h, j, p);
     let a = judge::closing::judge_send_hash(s, h, j, p, board);
     if a != 0 {
         return a;
@@ -81,7 +81,7 @@ pub fn step_back(s: &mut [u8], h: Head, j: u8) -> u8
     ensures { λ r. ⌜ Stepped h noClash (now (s .entry)) (now (s .exit)) (Back j) r ⌝ }
 {
     let c = next_of(s, j);
-    let board = guard::boards::board_by(s, h, j, c);
+    let board = support::boards::board_by(s, h, j, c);
     let a = judge::closing::judge_back(s, h, j, c, board);
     if a != 0 {
         return a;

@@ -33,8 +33,8 @@ returns-4 : tie.Need-returns-4
 unfolding answer rule
 returns-4 c = search row depth 10
 
-few-own-hearers-requires : tie.Need-few-own-hearers-requires
-few-own-hearers-requires c κs = search asked
+few-heard-own-requires : tie.Need-few-heard-own-requires
+few-heard-own-requires c κs = search asked
 
 returns-5 : tie.Need-returns-5
 unfolding answer rule
@@ -63,7 +63,7 @@ judge-back-spec =
     returns-3
     all-backed-requires
     returns-4
-    few-own-hearers-requires
+    few-heard-own-requires
     returns-5
     backing-full-requires
     returns-6

@@ -1,0 +1,17 @@
+-- By `own-heard`.
+use denote.Ref.{now}
+use Rattle.state.specs.Contents.{contents}
+use Rattle.view.specs.View.{stateOf}
+use Rattle.judge.proofs.Row.{own-heard}
+use borrow.Author.Needs.{needs}
+use Rattle.judge.proofs.own.few_heard_own.Statement.{statement}
+use Rattle.judge.proofs.own.few_heard_own.Tie as tie
+
+few-heard-requires : tie.Need-few-heard-requires
+few-heard-requires c κs = search needs
+
+returns : tie.Need-returns
+returns c = let a = c .before .before in own-heard (contents (now (a .args .s)) .bag) (a .args .j) (stateOf (contents (now (a .args .s))) .heard (a .args .j)) _ _ _ _ _ _ (c .few-heard .ensures) (a .pre .1) (a .pre .2)
+
+pub few-heard-own-spec : {M : Type 1} → statement M
+few-heard-own-spec = tie.close (tie.spec few-heard-requires returns)

@@ -1,0 +1,3 @@
+pub mod Full
+pub mod Gathered
+pub mod Sheets

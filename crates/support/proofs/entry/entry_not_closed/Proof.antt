@@ -1,0 +1,23 @@
+-- By `at-most-read`.
+use mathlib.Core.Path.{_∙_, ap}
+use Rattle.rules.specs.Bag.{periodOf}
+use Rattle.guard.proofs.Tests.{at-most-read}
+use borrow.Author.Needs.{needs}
+use Rattle.support.proofs.entry.entry_not_closed.Statement.{statement}
+use Rattle.support.proofs.entry.entry_not_closed.Tie as tie
+
+open-of-requires : tie.Need-open-of-requires
+open-of-requires c κs = search needs
+
+entry-at-requires : tie.Need-entry-at-requires
+entry-at-requires c κs = search needs
+
+period-of-requires : tie.Need-period-of-requires
+period-of-requires c κs = search needs
+
+returns : tie.Need-returns
+returns c = at-most-read (c .before .before .open-of .ensures) (c .period-of .ensures ∙ ap periodOf (c .before .entry-at .ensures))
+
+pub entry-not-closed-spec : {M : Type 1} → statement M
+entry-not-closed-spec =
+    tie.close (tie.spec open-of-requires entry-at-requires period-of-requires returns)
