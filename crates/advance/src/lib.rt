@@ -1,6 +1,6 @@
 // The inner step: on a state that is ready, a step's answer and effect, in place. Nothing is copied and nothing re-validated.
 // Rows of clashes may be handed in, made once for many steps; where there is no row of an item, its row is made anew.
-// It uses steps, and of ballot only what clashes.
+// It uses steps, and of the table only what clashes.
 ghost use mathlib.Core.Path.{_≡_};
 ghost use Rattle.header.specs.Header.{itemsOf};
 ghost use Rattle.clash.specs.Clash.{clashIn, RowsOf};
@@ -13,6 +13,7 @@ use steps::closing;
 use steps::outside;
 use view::Head;
 
+// The step, whichever of the eighteen it is.
 pub fn advance(table: &[u8], s: &mut [u8], h: Head, rows: &[u64], st: Step) -> u8
     requires { ⌜ Ready h (now s) × (h .items ≡ itemsOf (now table)) × RowsOf (now table) (now rows) ⌝ }
     ensures { λ r. ⌜ Stepped h (clashIn (now (table .entry))) (now (s .entry)) (now (s .exit)) st r ⌝ }

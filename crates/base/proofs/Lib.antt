@@ -3,6 +3,7 @@ pub mod Refusals
 pub mod Below
 pub mod Bytes
 pub mod Bits
+pub mod Members
 pub mod Sets
 pub mod Weight
 pub mod Marks

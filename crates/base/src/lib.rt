@@ -1,9 +1,10 @@
-// Reading a list of bytes: one byte, a number of several bytes, a part, whether two are the same.
+// Reading a list of bytes: one byte, a number of several bytes, a part, whether two are the same; and a set of peers.
 // Nothing is read outside the slice: past its end stands 0.
 // Its definitions and laws serve every crate above; it uses no other crate.
 ghost use mathlib.Core.Path.{_≡_};
 ghost use Prim.Native.Nat.{_<_, _≤_, _^_};
 ghost use Rattle.base.specs.Bytes.{byteAt, numberAt, part, sameBytes};
+ghost use Rattle.base.specs.Bits.{member};
 
 // The byte at i.
 pub fn byte_at(s: &[u8], i: usize) -> u8
@@ -61,4 +62,17 @@ pub fn same(a: &[u8], b: &[u8]) -> bool
         i += 1;
     }
     true
+}
+
+// Whether peer k is in a set of peers, which has 16 bits.
+pub fn is_member(set: u16, k: u8) -> bool
+    ensures { λ r. ⌜ r ≡ member set k ⌝ }
+{
+    if k == 0 {
+        return false;
+    }
+    if 16 < k {
+        return false;
+    }
+    (set >> (k - 1)) % 2 == 1
 }

@@ -2,7 +2,6 @@
 // `current` is p of document 01, the open period (the number of periods: none); `to_back` is c, the next period to back. The rules call them `current` and `toBack`.
 // `close` and `back` take the counters lent; `after_close` and `after_back` lend a copy to them, for those who hold the counters by value.
 // It uses no other crate.
-// It uses no other crate.
 ghost use mathlib.Core.Path.{_≡_};
 ghost use Prim.Native.Nat.{_<_};
 ghost use Rattle.counters.specs.Counters.{riseCurrent, riseToBack};

@@ -5,7 +5,7 @@ use mathlib.Core.List.{List, [], _∷_}
 use mathlib.Core.Path.{_≡_, refl, sym, ap, ap₂, subst, fun-ext, _∙_}
 use Rattle.base.specs.Weight.{ones}
 use Rattle.base.proofs.Weight.{weight-ext}
-use Rattle.header.specs.Header.{peersOf, thresholdOf, honestOf, isHonest, honestCount}
+use Rattle.header.specs.Header.{thresholdOf, isHonest, honestCount}
 use Rattle.clash.specs.Clash.{clashIn}
 use Rattle.ballot.specs.Table.{refusal}
 use Rattle.clash.proofs.Relation.{clash-in-sym, clash-in-self}
@@ -19,7 +19,7 @@ use Rattle.rules.specs.Demand3.{Premise, Safe}
 use Rattle.rules.proofs.Demand3.{demand-3, counted}
 use Rattle.rules.proofs.Runs.{ruled}
 use Rattle.state.specs.Contents.{contents}
-use Rattle.view.specs.View.{member, stateOf}
+use Rattle.view.specs.View.{stateOf}
 use Rattle.view.specs.Ready.{Ready}
 use Rattle.engine.specs.Engine.{headOf, boardTable, stepAnswer, stepBytes, freshState}
 use Rattle.engine.proofs.Calls.{room-of}
@@ -46,15 +46,10 @@ module _ (table : List ℕ) (fit : refusal table ≡ 0) where
   unfolding afterCalls run
   as-ruled calls = follows calls freshState [] (fresh-ready (headOf table) (room-of table (sym fit) refl)) ∙ ap (λ (s : State). ruled T s [] calls) fresh-state
 
-  honest-same : (k : ℕ) → isHonest table k ≡ member (honestOf table) k
-  unfolding isHonest member
-  honest-same zero = refl
-  honest-same (suc k) = refl
-
   premise : thresholdOf table ≤ honestCount table → Premise T
+  unfolding isHonest
   premise enough = counted T refl (sound table fit .threshold-rule)
-      (omega (arith, enough, weight-ext ones (peersOf table) (isHonest table) (member (honestOf table)) (λ k l m. honest-same k)))
-      (clash-in-sym table) (clash-in-self table)
+      enough (clash-in-sym table) (clash-in-self table)
 
   pub demand-3-on-bytes : thresholdOf table ≤ honestCount table → (calls : List (List ℕ)) → Safe T (afterCalls table) calls
   demand-3-on-bytes enough calls = subst (λ (after : List (List ℕ) → World). Safe T after calls) (sym (fun-ext as-ruled)) (demand-3 T (premise enough) calls)

@@ -9,8 +9,6 @@ use lib.Dec.{eqb, leb, ltb}
 use lib.Pow.{pow-pos}
 use borrow.Author.Tests.{eq-eqb, ne-eqb, eqb-true, le-leb, leb-true, leb-false, ltb-true, lt-ltb, le-ltb}
 use Rattle.base.proofs.Truth.{either, iff, or-l}
-use Rattle.base.proofs.Bits.{bit-shr, bit-high}
-use Rattle.view.specs.View.{member}
 
 -- m is at most a exactly if a is not below m
 not-below : (a m : ℕ) → leb m a ≡ not (ltb a m)
@@ -50,21 +48,6 @@ peer-zero n j e = sym (or-l _ _ (eq-eqb j 0 e))
 
 pub peer-other : (n j : ℕ) → (j ≡ 0 → ⊥) → ltb n j ≡ (eqb j 0 || ltb n j)
 peer-other n j d = rw (ne-eqb j 0 d)
-
-pub member-none : (set j : ℕ) → j ≡ 0 → false ≡ member set j
-unfolding member
-member-none set zero e = refl
-member-none set (suc j) e = absurd (omega arith)
-
-pub member-high : (set j : ℕ) → set < 2 ^ 16 → 16 < j → false ≡ member set j
-unfolding member
-member-high set zero l h = absurd (omega arith)
-member-high set (suc j) l h = sym (bit-high 16 set j l (omega arith))
-
-pub member-bit : (set j : ℕ) → (j ≡ 0 → ⊥) → eqb (set / 2 ^ (j - 1) % 2) 1 ≡ member set j
-unfolding member
-member-bit set zero d = absurd (d refl)
-member-bit set (suc j) d = ap (λ (k : ℕ). eqb (set / 2 ^ k % 2) 1) {x = suc j - 1} {y = j} (omega arith) ∙ sym (bit-shr set j)
 
 pub board-all : (B m : ℕ) → B < 2 ^ 64 → m ≡ 64 → false ≡ not (ltb B (2 ^ m))
 board-all B m l e = rw (e, lt-ltb B (2 ^ 64) l)

@@ -9,6 +9,7 @@ use state::facts::is_posted;
 use state::facts::is_signed;
 use state::numbers::open_of;
 
+// Item x is not posted.
 pub fn not_posted(s: &[u8], x: u8) -> bool
     requires { ⌜ Canon (now s) ⌝ }
     ensures { λ r. ⌜ r ≡ not (contents (now (s .entry)) .has (Posted x)) ⌝ }
@@ -24,6 +25,7 @@ pub fn not_held(s: &[u8], j: u8, x: u8) -> bool
     !is_held(s, j, open_of(s, j), x)
 }
 
+// Peer k's signature on item x in period p is absent.
 pub fn not_signed(s: &[u8], k: u8, p: u8, x: u8) -> bool
     requires { ⌜ Canon (now s) ⌝ }
     ensures { λ r. ⌜ r ≡ not (contents (now (s .entry)) .has (Signed k p x)) ⌝ }

@@ -3,9 +3,10 @@ ghost use mathlib.Core.Path.{_≡_};
 ghost use mathlib.Core.Bool.{_||_, not};
 ghost use Prim.Native.Nat.{_^_, _≤_};
 ghost use lib.Dec.{eqb, ltb};
-ghost use Rattle.view.specs.View.{member};
+ghost use Rattle.base.specs.Bits.{member};
 use view::Head;
 
+// There is no peer j.
 pub fn no_peer(h: Head, j: u8) -> bool
     ensures { λ r. ⌜ r ≡ (eqb j 0 || ltb (h .n) j) ⌝ }
 {
@@ -15,18 +16,21 @@ pub fn no_peer(h: Head, j: u8) -> bool
     h.n < j
 }
 
+// There is no period p.
 pub fn no_period(h: Head, p: u8) -> bool
     ensures { λ r. ⌜ r ≡ not (ltb p (h .periods)) ⌝ }
 {
     h.periods <= p
 }
 
+// There is no item x.
 pub fn no_item(h: Head, x: u8) -> bool
     ensures { λ r. ⌜ r ≡ not (ltb x (h .items)) ⌝ }
 {
     h.items <= x
 }
 
+// Whether a set of items has one that is not below `items`.
 fn has_above(board: u64, items: u8) -> bool
     requires { ⌜ items ≤ 64 ⌝ }
     ensures { λ r. ⌜ r ≡ not (ltb board (2 ^ items)) ⌝ }
@@ -45,25 +49,14 @@ pub fn no_board(h: Head, board: u64) -> bool
     has_above(board, h.items)
 }
 
-// Whether peer k is in a set of peers.
-fn in_set(set: u16, k: u8) -> bool
-    ensures { λ r. ⌜ r ≡ member set k ⌝ }
-{
-    if k == 0 {
-        return false;
-    }
-    if 16 < k {
-        return false;
-    }
-    (set >> (k - 1)) % 2 == 1
-}
-
+// Whether peer j is honest.
 pub fn is_honest(h: Head, j: u8) -> bool
     ensures { λ r. ⌜ r ≡ member (h .honest) j ⌝ }
 {
-    in_set(h.honest, j)
+    base::is_member(h.honest, j)
 }
 
+// Whether peer j is dishonest.
 pub fn not_honest(h: Head, j: u8) -> bool
     ensures { λ r. ⌜ r ≡ not (member (h .honest) j) ⌝ }
 {

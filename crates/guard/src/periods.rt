@@ -9,6 +9,7 @@ use state::numbers::next_of;
 use state::numbers::open_of;
 use view::Head;
 
+// Peer j is down.
 pub fn is_down(s: &[u8], j: u8) -> bool
     requires { ⌜ Canon (now s) ⌝ }
     ensures { λ r. ⌜ r ≡ eqb (contents (now (s .entry)) .number (DownOf j)) 1 ⌝ }
@@ -32,6 +33,7 @@ pub fn beyond(s: &[u8], j: u8, p: u8) -> bool
     open_of(s, j) < p
 }
 
+// Peer j has not closed period p.
 pub fn not_closed(s: &[u8], j: u8, p: u8) -> bool
     requires { ⌜ Canon (now s) ⌝ }
     ensures { λ r. ⌜ r ≡ not (ltb p (contents (now (s .entry)) .number (OpenOf j))) ⌝ }

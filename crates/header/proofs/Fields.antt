@@ -20,39 +20,13 @@ use Rattle.base.proofs.Weight.{weight-mono, count-all}
 use Rattle.header.specs.Header.{headerSize, peersOf, thresholdOf, honestOf, periodsOf, itemsOf}
 use Rattle.header.specs.Header.{isHonest, honestCount, leastThreshold, noneAbove, thresholdOk, fieldsOk, headerOk}
 
--- whether a peer is honest, as the machine computes it: no peer 0, no bit above the sixteenth, and else a bit of the set
-
-pub no-peer : (s : List ℕ) (k : ℕ) → k ≡ 0 → false ≡ isHonest s k
-unfolding isHonest
-no-peer s k e = rw e
-
-pub no-bit : (s : List ℕ) (k : ℕ) → honestOf s < 2 ^ 16 → 16 < k → false ≡ isHonest s k
-unfolding isHonest
-no-bit s zero h l = refl
-no-bit s (suc k) h l = sym (bit-high 16 (honestOf s) k h (omega arith))
-
-pub honest-bit : (s : List ℕ) (k : ℕ) → (k ≡ 0 → ⊥) → eqb (honestOf s / 2 ^ (k - 1) % 2) 1 ≡ isHonest s k
-unfolding isHonest
-honest-bit s zero h = absurd (h refl)
-honest-bit s (suc k) h = rw sub-one (sym (bit-shr (honestOf s) k))
-
 -- at most all peers are honest
 pub honest-most : (s : List ℕ) → honestCount s ≤ peersOf s
 honest-most s = omega (arith, weight-mono ones (peersOf s) (isHonest s) all (λ k e. refl), count-all (peersOf s))
 
--- a set with no bit above n is below 2 ^ n, and its honest peers are among the n
-
+-- a set with no bit above n is below 2 ^ n
 pub none-above : (n set : ℕ) → noneAbove n set ≡ true → set < 2 ^ n
 none-above n set e = omega (arith, rw (eqb-true (set / 2 ^ n) 0 e) at (lt-div-mul-add {a = set} (pow-pos n)))
-
-pub honest-among : (s : List ℕ) (n : ℕ) → honestOf s < 2 ^ n → (k : ℕ) → isHonest s k ≡ true → (1 ≤ k) × (k ≤ n)
-unfolding isHonest
-honest-among s n h zero e = false-true e
-honest-among s n h (suc k) e = (omega arith, go (either (ltb k n)))
-  where
-    go : (ltb k n ≡ true) ⊎ (ltb k n ≡ false) → suc k ≤ n
-    go (inl l) = ltb-true k n l
-    go (inr l) = split e (bit-high n (honestOf s) k h (ltb-false k n l))
 
 -- where a threshold is in range, so is the number of peers
 pub peers-most : (n t : ℕ) → thresholdOk n t ≡ true → n ≤ 16

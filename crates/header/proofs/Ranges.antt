@@ -6,9 +6,10 @@ use mathlib.Core.Path.{_≡_}
 use borrow.Author.Tests.{leb-true}
 use Rattle.base.proofs.Truth.{and-l, and-r}
 use Rattle.base.proofs.Bytes.{between-true}
+use Rattle.base.proofs.Members.{member-among}
 use Rattle.header.specs.Header.{peersOf, thresholdOf, honestOf, periodsOf, itemsOf, isHonest}
 use Rattle.header.specs.Header.{leastThreshold, thresholdOk, fieldsOk, headerOk}
-use Rattle.header.proofs.Fields.{none-above, honest-among}
+use Rattle.header.proofs.Fields.{none-above}
 
 module _ (s : List ℕ) (ok : headerOk s ≡ true) where
   pub peers-range : (1 ≤ peersOf s) × (peersOf s ≤ 16)
@@ -20,8 +21,8 @@ module _ (s : List ℕ) (ok : headerOk s ≡ true) where
   threshold-range = between-true (leastThreshold (peersOf s)) (thresholdOf s) (peersOf s) (search (and-l, and-r))
 
   pub honest-range : (k : ℕ) → isHonest s k ≡ true → (1 ≤ k) × (k ≤ peersOf s)
-  unfolding headerOk fieldsOk
-  honest-range = honest-among s (peersOf s) (none-above (peersOf s) (honestOf s) (search (and-l, and-r)))
+  unfolding headerOk fieldsOk isHonest
+  honest-range = member-among (peersOf s) (honestOf s) (none-above (peersOf s) (honestOf s) (search (and-l, and-r)))
 
   pub periods-range : (1 ≤ periodsOf s) × (periodsOf s ≤ 8)
   unfolding headerOk fieldsOk

@@ -1,11 +1,11 @@
 -- The ballot table's header: its fields, and whether each is in range.
-use Prim.Native.Nat.{ℕ, zero, suc, _+_, _-_, _*_, _/_, _^_}
-use mathlib.Core.Bool.{Bool, false, _&&_}
+use Prim.Native.Nat.{ℕ, _+_, _-_, _*_, _/_, _^_}
+use mathlib.Core.Bool.{Bool, _&&_}
 use mathlib.Core.List.{List, [], _∷_}
 use lib.Dec.{leb, eqb}
 use lib.ListN.{length, getD}
 use Rattle.base.specs.Bytes.{byteAt, between}
-use Rattle.base.specs.Bits.{bit}
+use Rattle.base.specs.Bits.{member}
 use Rattle.base.specs.Weight.{weight, ones}
 
 -- the header's length in bytes, the same for every table
@@ -36,10 +36,9 @@ periodsOf s = fieldOf s 4
 abbrev pub itemsOf : List ℕ → ℕ
 itemsOf s = fieldOf s 5
 
--- peer k is honest; there is no peer 0
+-- peer k is honest
 unfoldable pub isHonest : List ℕ → ℕ → Bool
-isHonest s zero = false
-isHonest s (suc k) = bit (honestOf s) k
+isHonest s k = member (honestOf s) k
 
 -- h, the number of honest peers
 abbrev pub honestCount : List ℕ → ℕ

@@ -57,18 +57,11 @@ pub fn items(table: &[u8]) -> u8
     field(table, 5)
 }
 
-// Whether peer k is honest. The set has 16 bits.
+// Whether peer k is honest.
 pub fn is_honest(table: &[u8], k: u8) -> bool
     ensures { λ r. ⌜ r ≡ isHonest (now (table .entry)) k ⌝ }
 {
-    if k == 0 {
-        return false;
-    }
-    let set = honest(table);
-    if 16 < k {
-        return false;
-    }
-    (set >> (k - 1)) % 2 == 1
+    base::is_member(honest(table), k)
 }
 
 // h, the number of honest peers.

@@ -5,6 +5,7 @@ ghost use Rattle.view.specs.View.{noClash, inRow, answerOn};
 ghost use Rattle.view.specs.Ready.{Ready};
 use view::Head;
 
+// 1, post: item x is posted.
 pub fn judge_post(s: &[u8], h: Head, x: u8) -> u8
     requires { ⌜ Ready h (now s) ⌝ }
     ensures { λ r. ⌜ r ≡ answerOn h noClash (now (s .entry)) (Post x) ⌝ }
@@ -15,6 +16,7 @@ pub fn judge_post(s: &[u8], h: Head, x: u8) -> u8
     0
 }
 
+// 2, hand: peer j is handed item x, and holds it in its open period.
 pub fn judge_hand(s: &[u8], h: Head, row: u64, j: u8, x: u8) -> u8
     requires { ⌜ Ready h (now s) ⌝ }
     ensures { λ r. ⌜ r ≡ answerOn h (inRow row) (now (s .entry)) (Hand j x) ⌝ }
@@ -43,6 +45,7 @@ pub fn judge_hand(s: &[u8], h: Head, row: u64, j: u8, x: u8) -> u8
     0
 }
 
+// 3, sign: peer j signs item x, and knows its own signature.
 pub fn judge_sign(s: &[u8], h: Head, j: u8, x: u8) -> u8
     requires { ⌜ Ready h (now s) ⌝ }
     ensures { λ r. ⌜ r ≡ answerOn h noClash (now (s .entry)) (Sign j x) ⌝ }
@@ -68,6 +71,7 @@ pub fn judge_sign(s: &[u8], h: Head, j: u8, x: u8) -> u8
     0
 }
 
+// 4, take: peer j takes peer k's signature on item x in period p.
 pub fn judge_take(s: &[u8], h: Head, j: u8, k: u8, p: u8, x: u8) -> u8
     requires { ⌜ Ready h (now s) ⌝ }
     ensures { λ r. ⌜ r ≡ answerOn h noClash (now (s .entry)) (Take j k p x) ⌝ }
@@ -99,6 +103,7 @@ pub fn judge_take(s: &[u8], h: Head, j: u8, k: u8, p: u8, x: u8) -> u8
     0
 }
 
+// 5, share: peer j gives its receipt share on item x.
 pub fn judge_share(s: &[u8], h: Head, j: u8, x: u8) -> u8
     requires { ⌜ Ready h (now s) ⌝ }
     ensures { λ r. ⌜ r ≡ answerOn h noClash (now (s .entry)) (Share j x) ⌝ }
@@ -124,6 +129,7 @@ pub fn judge_share(s: &[u8], h: Head, j: u8, x: u8) -> u8
     0
 }
 
+// 6, receipt: t receipt shares on item x in period p make a receipt.
 pub fn judge_receipt(s: &[u8], h: Head, p: u8, x: u8) -> u8
     requires { ⌜ Ready h (now s) ⌝ }
     ensures { λ r. ⌜ r ≡ answerOn h noClash (now (s .entry)) (Receipt p x) ⌝ }

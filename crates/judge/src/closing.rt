@@ -7,6 +7,7 @@ ghost use Rattle.view.specs.View.{noClash, answerOn, boardOn};
 ghost use Rattle.view.specs.Ready.{Ready};
 use view::Head;
 
+// 7, close: peer j closes its open period.
 pub fn judge_close(s: &[u8], h: Head, j: u8) -> u8
     requires { ⌜ Ready h (now s) ⌝ }
     ensures { λ r. ⌜ r ≡ answerOn h noClash (now (s .entry)) (Close j) ⌝ }
@@ -26,6 +27,7 @@ pub fn judge_close(s: &[u8], h: Head, j: u8) -> u8
     0
 }
 
+// 8, fetch: peer j adds peer k's database of period p to its own.
 pub fn judge_fetch(s: &[u8], h: Head, j: u8, k: u8, p: u8) -> u8
     requires { ⌜ Ready h (now s) ⌝ }
     ensures { λ r. ⌜ r ≡ answerOn h noClash (now (s .entry)) (Fetch j k p) ⌝ }
@@ -60,6 +62,7 @@ pub fn judge_fetch(s: &[u8], h: Head, j: u8, k: u8, p: u8) -> u8
     0
 }
 
+// 9, hash: peer j sends out the hash of its board of period p.
 pub fn judge_send_hash(s: &[u8], h: Head, j: u8, p: u8, board: u64) -> u8
     requires { ⌜ Ready h (now s) × (board ≡ boardOn h (now s) j p) ⌝ }
     ensures { λ r. ⌜ r ≡ answerOn h noClash (now (s .entry)) (SendHash j p) ⌝ }
@@ -85,6 +88,7 @@ pub fn judge_send_hash(s: &[u8], h: Head, j: u8, p: u8, board: u64) -> u8
     0
 }
 
+// 10, hear: peer j hears the hash of entry e.
 pub fn judge_hear(s: &[u8], h: Head, j: u8, e: u8) -> u8
     requires { ⌜ Ready h (now s) ⌝ }
     ensures { λ r. ⌜ r ≡ answerOn h noClash (now (s .entry)) (Hear j e) ⌝ }
@@ -107,6 +111,7 @@ pub fn judge_hear(s: &[u8], h: Head, j: u8, e: u8) -> u8
     0
 }
 
+// 11, back: peer j backs its board of the next period that it is to back.
 pub fn judge_back(s: &[u8], h: Head, j: u8, c: u8, board: u64) -> u8
     requires { ⌜ Ready h (now s) × (c ≡ contents (now s) .number (NextOf j)) × (board ≡ boardOn h (now s) j (contents (now s) .number (NextOf j))) ⌝ }
     ensures { λ r. ⌜ r ≡ answerOn h noClash (now (s .entry)) (Back j) ⌝ }
@@ -132,6 +137,7 @@ pub fn judge_back(s: &[u8], h: Head, j: u8, c: u8, board: u64) -> u8
     0
 }
 
+// 12, publish: the board that the backing of entry e names is published.
 pub fn judge_publish(s: &[u8], h: Head, e: u8) -> u8
     requires { ⌜ Ready h (now s) ⌝ }
     ensures { λ r. ⌜ r ≡ answerOn h noClash (now (s .entry)) (Publish e) ⌝ }

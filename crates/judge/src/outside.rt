@@ -6,6 +6,7 @@ ghost use Rattle.view.specs.Ready.{Ready};
 use rules::Entry;
 use view::Head;
 
+// 13: the outsider makes dishonest peer j's signature on item x in period p.
 pub fn judge_false_signature(s: &[u8], h: Head, j: u8, p: u8, x: u8) -> u8
     requires { ⌜ Ready h (now s) ⌝ }
     ensures { λ r. ⌜ r ≡ answerOn h noClash (now (s .entry)) (FalseSignature j p x) ⌝ }
@@ -28,6 +29,7 @@ pub fn judge_false_signature(s: &[u8], h: Head, j: u8, p: u8, x: u8) -> u8
     0
 }
 
+// 14: the outsider makes dishonest peer j's receipt share on item x in period p.
 pub fn judge_false_share(s: &[u8], h: Head, j: u8, p: u8, x: u8) -> u8
     requires { ⌜ Ready h (now s) ⌝ }
     ensures { λ r. ⌜ r ≡ answerOn h noClash (now (s .entry)) (FalseShare j p x) ⌝ }
@@ -50,6 +52,7 @@ pub fn judge_false_share(s: &[u8], h: Head, j: u8, p: u8, x: u8) -> u8
     0
 }
 
+// 15: the outsider makes dishonest peer j's hash of a board in period p.
 pub fn judge_false_hash(s: &[u8], h: Head, j: u8, p: u8, board: u64) -> u8
     requires { ⌜ Ready h (now s) ⌝ }
     ensures { λ r. ⌜ r ≡ answerOn h noClash (now (s .entry)) (FalseHash j p board) ⌝ }
@@ -75,6 +78,7 @@ pub fn judge_false_hash(s: &[u8], h: Head, j: u8, p: u8, board: u64) -> u8
     0
 }
 
+// 16: the outsider makes dishonest peer j's backing of a board in period p.
 pub fn judge_false_backing(s: &[u8], h: Head, j: u8, p: u8, board: u64) -> u8
     requires { ⌜ Ready h (now s) ⌝ }
     ensures { λ r. ⌜ r ≡ answerOn h noClash (now (s .entry)) (FalseBacking j p board) ⌝ }
@@ -100,6 +104,7 @@ pub fn judge_false_backing(s: &[u8], h: Head, j: u8, p: u8, board: u64) -> u8
     0
 }
 
+// 17, down: peer j goes down.
 pub fn judge_down(s: &[u8], h: Head, j: u8) -> u8
     requires { ⌜ Ready h (now s) ⌝ }
     ensures { λ r. ⌜ r ≡ answerOn h noClash (now (s .entry)) (Down j) ⌝ }
@@ -113,6 +118,7 @@ pub fn judge_down(s: &[u8], h: Head, j: u8) -> u8
     0
 }
 
+// 18, up: peer j comes up.
 pub fn judge_up(s: &[u8], h: Head, j: u8) -> u8
     requires { ⌜ Ready h (now s) ⌝ }
     ensures { λ r. ⌜ r ≡ answerOn h noClash (now (s .entry)) (Up j) ⌝ }

@@ -10,6 +10,7 @@ use text::put_field;
 use text::put_small;
 use text::put_word;
 
+// The line of an input that is refused.
 pub fn put_refused(out: &mut [u8], at: usize, r: u8) -> usize
     ensures { λ to. ⌜ Wrote (now (out .entry)) at (refusedLine r) (now (out .exit)) to ⌝ }
 {
@@ -18,6 +19,7 @@ pub fn put_refused(out: &mut [u8], at: usize, r: u8) -> usize
     put_byte(out, b, b'\n')
 }
 
+// The first line: n, t and h.
 pub fn put_head(out: &mut [u8], at: usize, n: u8, t: u8, h: u8) -> usize
     ensures { λ to. ⌜ Wrote (now (out .entry)) at (headLine n t h) (now (out .exit)) to ⌝ }
 {
@@ -30,6 +32,7 @@ pub fn put_head(out: &mut [u8], at: usize, n: u8, t: u8, h: u8) -> usize
     put_byte(out, f, b'\n')
 }
 
+// The line of step k.
 pub fn put_step(out: &mut [u8], at: usize, k: u64, answer: u8) -> usize
     ensures { λ to. ⌜ Wrote (now (out .entry)) at (stepLine k answer) (now (out .exit)) to ⌝ }
 {
@@ -38,6 +41,7 @@ pub fn put_step(out: &mut [u8], at: usize, k: u64, answer: u8) -> usize
     put_byte(out, b, b'\n')
 }
 
+// The line of an item in a peer's database.
 pub fn put_db(out: &mut [u8], at: usize, j: u8, p: u8, x: u8, signers: u32) -> usize
     ensures { λ to. ⌜ Wrote (now (out .entry)) at (dbLine j p x signers) (now (out .exit)) to ⌝ }
 {
@@ -49,6 +53,7 @@ pub fn put_db(out: &mut [u8], at: usize, j: u8, p: u8, x: u8, signers: u32) -> u
     put_byte(out, e, b'\n')
 }
 
+// The line of a receipt.
 pub fn put_receipt(out: &mut [u8], at: usize, p: u8, x: u8) -> usize
     ensures { λ to. ⌜ Wrote (now (out .entry)) at (receiptLine p x) (now (out .exit)) to ⌝ }
 {
@@ -66,6 +71,7 @@ fn has(board: u64, x: u8) -> bool
     (board >> x) % 2 == 1
 }
 
+// A blank and item x, if the board has it.
 fn put_item(out: &mut [u8], at: usize, board: u64, x: u8) -> usize
     requires { ⌜ x < 64 ⌝ }
     ensures { λ to. ⌜ Wrote (now (out .entry)) at (boardItem board x) (now (out .exit)) to ⌝ }
@@ -90,6 +96,7 @@ fn put_items(out: &mut [u8], at: usize, board: u64, m: u8) -> usize
     to
 }
 
+// The line of a board.
 pub fn put_board(out: &mut [u8], at: usize, m: u8, p: u8, board: u64) -> usize
     requires { ⌜ m ≤ 64 ⌝ }
     ensures { λ to. ⌜ Wrote (now (out .entry)) at (boardLine m p board) (now (out .exit)) to ⌝ }

@@ -17,6 +17,7 @@ use state::sets::signer_count;
 use text::put_word;
 use view::Head;
 
+// The line of item x, if its set is not empty.
 fn put_db_item(out: &mut [u8], at: usize, s: &[u8], j: u8, p: u8, x: u8) -> usize
     requires { ⌜ Canon (now s) ⌝ }
     ensures { λ to. ⌜ Wrote (now (out .entry)) at (dbItem (contents (now (s .entry))) j p x) (now (out .exit)) to ⌝ }
@@ -28,6 +29,7 @@ fn put_db_item(out: &mut [u8], at: usize, s: &[u8], j: u8, p: u8, x: u8) -> usiz
     at
 }
 
+// One period of a peer's database.
 fn put_db_period(out: &mut [u8], at: usize, s: &[u8], h: Head, j: u8, p: u8) -> usize
     requires { ⌜ Canon (now s) ⌝ }
     ensures { λ to. ⌜ Wrote (now (out .entry)) at (dbPeriod h (contents (now (s .entry))) j p) (now (out .exit)) to ⌝ }
@@ -55,6 +57,7 @@ fn put_db_peer(out: &mut [u8], at: usize, s: &[u8], h: Head, k: u8) -> usize
     to
 }
 
+// The databases of all peers.
 fn put_dbs(out: &mut [u8], at: usize, s: &[u8], h: Head) -> usize
     requires { ⌜ Canon (now s) × (h .n ≤ 16) ⌝ }
     ensures { λ to. ⌜ Wrote (now (out .entry)) at (dbLines h (contents (now (s .entry)))) (now (out .exit)) to ⌝ }
@@ -68,6 +71,7 @@ fn put_dbs(out: &mut [u8], at: usize, s: &[u8], h: Head) -> usize
     to
 }
 
+// The line of item x, if there is a receipt.
 fn put_receipt_item(out: &mut [u8], at: usize, s: &[u8], p: u8, x: u8) -> usize
     requires { ⌜ Canon (now s) ⌝ }
     ensures { λ to. ⌜ Wrote (now (out .entry)) at (receiptItem (contents (now (s .entry))) p x) (now (out .exit)) to ⌝ }
@@ -78,6 +82,7 @@ fn put_receipt_item(out: &mut [u8], at: usize, s: &[u8], p: u8, x: u8) -> usize
     at
 }
 
+// The receipts of one period.
 fn put_receipt_period(out: &mut [u8], at: usize, s: &[u8], h: Head, p: u8) -> usize
     requires { ⌜ Canon (now s) ⌝ }
     ensures { λ to. ⌜ Wrote (now (out .entry)) at (receiptPeriod h (contents (now (s .entry))) p) (now (out .exit)) to ⌝ }
@@ -91,6 +96,7 @@ fn put_receipt_period(out: &mut [u8], at: usize, s: &[u8], h: Head, p: u8) -> us
     to
 }
 
+// The receipts of all periods.
 fn put_receipts(out: &mut [u8], at: usize, s: &[u8], h: Head) -> usize
     requires { ⌜ Canon (now s) ⌝ }
     ensures { λ to. ⌜ Wrote (now (out .entry)) at (receiptLines h (contents (now (s .entry)))) (now (out .exit)) to ⌝ }
@@ -104,6 +110,7 @@ fn put_receipts(out: &mut [u8], at: usize, s: &[u8], h: Head) -> usize
     to
 }
 
+// The line of an entry, if it is a board.
 fn put_entry(out: &mut [u8], at: usize, h: Head, x: Entry) -> usize
     requires { ⌜ h .items ≤ 64 ⌝ }
     ensures { λ to. ⌜ Wrote (now (out .entry)) at (entryLine h x) (now (out .exit)) to ⌝ }
@@ -115,6 +122,7 @@ fn put_entry(out: &mut [u8], at: usize, h: Head, x: Entry) -> usize
     }
 }
 
+// The line of entry e of the bag, if it is a board.
 fn put_bag_entry(out: &mut [u8], at: usize, s: &[u8], h: Head, e: usize) -> usize
     requires { ⌜ Canon (now s) × (h .items ≤ 64) ⌝ }
     ensures { λ to. ⌜ Wrote (now (out .entry)) at (bagLine h (contents (now (s .entry))) e) (now (out .exit)) to ⌝ }
@@ -122,6 +130,7 @@ fn put_bag_entry(out: &mut [u8], at: usize, s: &[u8], h: Head, e: usize) -> usiz
     put_entry(out, at, h, entry_at(s, e))
 }
 
+// The boards, in the bag's order.
 fn put_boards(out: &mut [u8], at: usize, s: &[u8], h: Head) -> usize
     requires { ⌜ Canon (now s) × (h .items ≤ 64) ⌝ }
     ensures { λ to. ⌜ Wrote (now (out .entry)) at (boardLines h (contents (now (s .entry)))) (now (out .exit)) to ⌝ }

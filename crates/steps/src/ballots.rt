@@ -9,6 +9,7 @@ use state::facts::add_fact;
 use state::numbers::open_of;
 use view::Head;
 
+// 1, post: item x is posted.
 pub fn step_post(s: &mut [u8], h: Head, x: u8) -> u8
     requires { ⌜ Ready h (now s) ⌝ }
     ensures { λ r. ⌜ Stepped h noClash (now (s .entry)) (now (s .exit)) (Post x) r ⌝ }
@@ -21,6 +22,7 @@ pub fn step_post(s: &mut [u8], h: Head, x: u8) -> u8
     0
 }
 
+// 2, hand: peer j is handed item x, and holds it in its open period.
 pub fn step_hand(s: &mut [u8], h: Head, row: u64, j: u8, x: u8) -> u8
     requires { ⌜ Ready h (now s) ⌝ }
     ensures { λ r. ⌜ Stepped h (inRow row) (now (s .entry)) (now (s .exit)) (Hand j x) r ⌝ }
@@ -34,6 +36,7 @@ pub fn step_hand(s: &mut [u8], h: Head, row: u64, j: u8, x: u8) -> u8
     0
 }
 
+// 3, sign: peer j signs item x, and knows its own signature.
 pub fn step_sign(s: &mut [u8], h: Head, j: u8, x: u8) -> u8
     requires { ⌜ Ready h (now s) ⌝ }
     ensures { λ r. ⌜ Stepped h noClash (now (s .entry)) (now (s .exit)) (Sign j x) r ⌝ }
@@ -48,6 +51,7 @@ pub fn step_sign(s: &mut [u8], h: Head, j: u8, x: u8) -> u8
     0
 }
 
+// 4, take: peer j takes peer k's signature on item x in period p.
 pub fn step_take(s: &mut [u8], h: Head, j: u8, k: u8, p: u8, x: u8) -> u8
     requires { ⌜ Ready h (now s) ⌝ }
     ensures { λ r. ⌜ Stepped h noClash (now (s .entry)) (now (s .exit)) (Take j k p x) r ⌝ }
@@ -60,6 +64,7 @@ pub fn step_take(s: &mut [u8], h: Head, j: u8, k: u8, p: u8, x: u8) -> u8
     0
 }
 
+// 5, share: peer j gives its receipt share on item x.
 pub fn step_share(s: &mut [u8], h: Head, j: u8, x: u8) -> u8
     requires { ⌜ Ready h (now s) ⌝ }
     ensures { λ r. ⌜ Stepped h noClash (now (s .entry)) (now (s .exit)) (Share j x) r ⌝ }
@@ -73,6 +78,7 @@ pub fn step_share(s: &mut [u8], h: Head, j: u8, x: u8) -> u8
     0
 }
 
+// 6, receipt: t receipt shares on item x in period p make a receipt.
 pub fn step_receipt(s: &mut [u8], h: Head, p: u8, x: u8) -> u8
     requires { ⌜ Ready h (now s) ⌝ }
     ensures { λ r. ⌜ Stepped h noClash (now (s .entry)) (now (s .exit)) (Receipt p x) r ⌝ }

@@ -65,5 +65,8 @@ pub fn sheet_of(s: &[u8], e: u8) -> Entry
     ensures { λ r. ⌜ r ≡ Board (periodOf (entryAt (contents (now (s .entry)) .bag) e)) (boardOf (entryAt (contents (now (s .entry)) .bag) e)) ⌝ }
 {
     let x = entry_at(s, e as usize);
-    Entry::Board(support::entry::period_of(x), support::entry::board_of_entry(x))
+    Entry::Board(
+        support::entry::period_of(x),
+        support::entry::board_of_entry(x),
+    )
 }

@@ -14,6 +14,7 @@ use state::facts::add_fact;
 use state::numbers::next_of;
 use view::Head;
 
+// 7, close: peer j closes its open period.
 pub fn step_close(s: &mut [u8], h: Head, j: u8) -> u8
     requires { ⌜ Ready h (now s) ⌝ }
     ensures { λ r. ⌜ Stepped h noClash (now (s .entry)) (now (s .exit)) (Close j) r ⌝ }
@@ -26,6 +27,7 @@ pub fn step_close(s: &mut [u8], h: Head, j: u8) -> u8
     0
 }
 
+// 8, fetch: peer j adds peer k's database of period p to its own.
 pub fn step_fetch(s: &mut [u8], h: Head, j: u8, k: u8, p: u8) -> u8
     requires { ⌜ Ready h (now s) ⌝ }
     ensures { λ r. ⌜ Stepped h noClash (now (s .entry)) (now (s .exit)) (Fetch j k p) r ⌝ }
@@ -38,31 +40,7 @@ pub fn step_fetch(s: &mut [u8], h: Head, j: u8, k: u8, p: u8) -> u8
     0
 }
 
-pub fn step_hear(s: &mut [u8], h: Head, j: u8, e: u8) -> u8
-    requires { ⌜ Ready h (now s) ⌝ }
-    ensures { λ r. ⌜ Stepped h noClash (now (s .entry)) (now (s .exit)) (Hear j e) r ⌝ }
-{
-    let a = judge::closing::judge_hear(s, h, j, e);
-    if a != 0 {
-        return a;
-    }
-    add_fact(s, Fact::Heard(j, e));
-    0
-}
-
-pub fn step_publish(s: &mut [u8], h: Head, e: u8) -> u8
-    requires { ⌜ Ready h (now s) ⌝ }
-    ensures { λ r. ⌜ Stepped h noClash (now (s .entry)) (now (s .exit)) (Publish e) r ⌝ }
-{
-    let a = judge::closing::judge_publish(s, h, e);
-    if a != 0 {
-        return a;
-    }
-    let x = sheet_of(s, e);
-    enter(s, x);
-    0
-}
-
+// 9, hash: peer j sends out the hash of its board of period p.
 pub fn step_send_hash(s: &mut [u8], h: Head, j: u8, p: u8) -> u8
     requires { ⌜ Ready h (now s) ⌝ }
     ensures { λ r. ⌜ Stepped h noClash (now (s .entry)) (now (s .exit)) (SendHash j p) r ⌝ }
@@ -76,6 +54,20 @@ pub fn step_send_hash(s: &mut [u8], h: Head, j: u8, p: u8) -> u8
     0
 }
 
+// 10, hear: peer j hears the hash of entry e.
+pub fn step_hear(s: &mut [u8], h: Head, j: u8, e: u8) -> u8
+    requires { ⌜ Ready h (now s) ⌝ }
+    ensures { λ r. ⌜ Stepped h noClash (now (s .entry)) (now (s .exit)) (Hear j e) r ⌝ }
+{
+    let a = judge::closing::judge_hear(s, h, j, e);
+    if a != 0 {
+        return a;
+    }
+    add_fact(s, Fact::Heard(j, e));
+    0
+}
+
+// 11, back: peer j backs its board of the next period that it is to back.
 pub fn step_back(s: &mut [u8], h: Head, j: u8) -> u8
     requires { ⌜ Ready h (now s) ⌝ }
     ensures { λ r. ⌜ Stepped h noClash (now (s .entry)) (now (s .exit)) (Back j) r ⌝ }
@@ -88,5 +80,19 @@ pub fn step_back(s: &mut [u8], h: Head, j: u8) -> u8
     }
     enter(s, Entry::Backing(j, c, board));
     raise_next(s, j);
+    0
+}
+
+// 12, publish: the board that the backing of entry e names is published.
+pub fn step_publish(s: &mut [u8], h: Head, e: u8) -> u8
+    requires { ⌜ Ready h (now s) ⌝ }
+    ensures { λ r. ⌜ Stepped h noClash (now (s .entry)) (now (s .exit)) (Publish e) r ⌝ }
+{
+    let a = judge::closing::judge_publish(s, h, e);
+    if a != 0 {
+        return a;
+    }
+    let x = sheet_of(s, e);
+    enter(s, x);
     0
 }

@@ -12,6 +12,7 @@ use state::facts::add_fact;
 use state::numbers::set_value;
 use view::Head;
 
+// 13: the outsider makes dishonest peer j's signature on item x in period p.
 pub fn step_false_signature(s: &mut [u8], h: Head, j: u8, p: u8, x: u8) -> u8
     requires { ⌜ Ready h (now s) ⌝ }
     ensures { λ r. ⌜ Stepped h noClash (now (s .entry)) (now (s .exit)) (FalseSignature j p x) r ⌝ }
@@ -24,6 +25,7 @@ pub fn step_false_signature(s: &mut [u8], h: Head, j: u8, p: u8, x: u8) -> u8
     0
 }
 
+// 14: the outsider makes dishonest peer j's receipt share on item x in period p.
 pub fn step_false_share(s: &mut [u8], h: Head, j: u8, p: u8, x: u8) -> u8
     requires { ⌜ Ready h (now s) ⌝ }
     ensures { λ r. ⌜ Stepped h noClash (now (s .entry)) (now (s .exit)) (FalseShare j p x) r ⌝ }
@@ -36,6 +38,7 @@ pub fn step_false_share(s: &mut [u8], h: Head, j: u8, p: u8, x: u8) -> u8
     0
 }
 
+// 15: the outsider makes dishonest peer j's hash of a board in period p.
 pub fn step_false_hash(s: &mut [u8], h: Head, j: u8, p: u8, board: u64) -> u8
     requires { ⌜ Ready h (now s) ⌝ }
     ensures { λ r. ⌜ Stepped h noClash (now (s .entry)) (now (s .exit)) (FalseHash j p board) r ⌝ }
@@ -48,6 +51,7 @@ pub fn step_false_hash(s: &mut [u8], h: Head, j: u8, p: u8, board: u64) -> u8
     0
 }
 
+// 16: the outsider makes dishonest peer j's backing of a board in period p.
 pub fn step_false_backing(s: &mut [u8], h: Head, j: u8, p: u8, board: u64) -> u8
     requires { ⌜ Ready h (now s) ⌝ }
     ensures { λ r. ⌜ Stepped h noClash (now (s .entry)) (now (s .exit)) (FalseBacking j p board) r ⌝ }
@@ -60,6 +64,7 @@ pub fn step_false_backing(s: &mut [u8], h: Head, j: u8, p: u8, board: u64) -> u8
     0
 }
 
+// 17, down: peer j goes down.
 pub fn step_down(s: &mut [u8], h: Head, j: u8) -> u8
     requires { ⌜ Ready h (now s) ⌝ }
     ensures { λ r. ⌜ Stepped h noClash (now (s .entry)) (now (s .exit)) (Down j) r ⌝ }
@@ -72,6 +77,7 @@ pub fn step_down(s: &mut [u8], h: Head, j: u8) -> u8
     0
 }
 
+// 18, up: peer j comes up.
 pub fn step_up(s: &mut [u8], h: Head, j: u8) -> u8
     requires { ⌜ Ready h (now s) ⌝ }
     ensures { λ r. ⌜ Stepped h noClash (now (s .entry)) (now (s .exit)) (Up j) r ⌝ }

@@ -12,6 +12,7 @@ use state::bag::is_in;
 use state::layout;
 use state::numbers::open_of;
 
+// Whether the entry is a hash.
 fn is_hash(x: Entry) -> bool
     ensures { λ r. ⌜ r ≡ isHash x ⌝ }
 {
@@ -22,6 +23,7 @@ fn is_hash(x: Entry) -> bool
     }
 }
 
+// Whether the entry is a backing.
 fn is_backing(x: Entry) -> bool
     ensures { λ r. ⌜ r ≡ isBacking x ⌝ }
 {
@@ -32,6 +34,7 @@ fn is_backing(x: Entry) -> bool
     }
 }
 
+// The period that an entry names.
 pub fn period_of(x: Entry) -> u8
     ensures { λ r. ⌜ r ≡ periodOf x ⌝ }
 {

@@ -3,7 +3,7 @@ use Prim.Native.Nat.{ℕ, zero, suc}
 use mathlib.Core.Bool.{Bool, false, _&&_, _||_}
 use mathlib.Core.List.{List, [], _∷_}
 use lib.Dec.{eqb}
-use Rattle.base.specs.Bits.{bit}
+use Rattle.base.specs.Bits.{bit, member}
 use Rattle.base.specs.Weight.{ones}
 use Rattle.rules.specs.declared.Entry.{Entry}
 use Rattle.rules.specs.declared.Entry.the-variants.{Hash}
@@ -16,11 +16,6 @@ use Rattle.state.specs.declared.Fact.the-variants.{Posted, Signed, Shared, Rece
 use Rattle.state.specs.declared.Number.the-variants.{OpenOf, NextOf, DownOf}
 use Rattle.state.specs.Contents.{Contents, contents}
 use Rattle.view.specs.declared.Head.{Head}
-
--- peer k is in a set of peers, whose bit k - 1 it is
-unfoldable pub member : ℕ → ℕ → Bool
-member set zero = false
-member set (suc k) = bit set k
 
 -- the table of the rules: every weight is 1
 abbrev pub tableOf : Head → (ℕ → ℕ → Bool) → Table
