@@ -3,3 +3,4 @@ pub mod Number
 pub mod Joined
 pub mod Loops
 pub mod Count
+pub mod Zeros

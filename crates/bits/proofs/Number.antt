@@ -14,7 +14,7 @@ use Rattle.base.specs.Bytes.{byteAt}
 use Rattle.base.proofs.Bits.{bit-low, bit-top, pack-ext, pack-bit}
 use Rattle.bits.specs.Row.{bitAt, Bytes}
 use Rattle.bits.specs.Number.{num, stored}
-use Rattle.bits.proofs.Row.{bytes-set, bitAt-same}
+use Rattle.bits.proofs.Row.{bytes-set}
 
 -- a number in n bytes
 
@@ -133,10 +133,6 @@ num-stored (suc n) s o v h l = omega (arith, first, next, num-stored n (set s o 
     next : num n t (suc o) ≡ num n t (o + 1)
     next = ap (num n t) (omega arith)
 
--- so its bits are those of the row there, and the bits of the other bytes are as they were
-
+-- so its bits are those of the row there
 pub bitAt-stored : (n : ℕ) (s : List ℕ) (o v k : ℕ) → Bytes s → o + n ≤ length s → v < 256 ^ n → k < 8 * n → bitAt (stored n s o v) (8 * o + k) ≡ bit v k
 bitAt-stored n s o v k b h l m = sym (num-bit n (stored n s o v) o k (bytes-stored n s o v b) m) ∙ ap (λ (x : ℕ). bit x k) (num-stored n s o v h l)
-
-pub bitAt-stored-out : (n : ℕ) (s : List ℕ) (o v a : ℕ) → (o ≤ a / 8 → o + n ≤ a / 8) → bitAt (stored n s o v) a ≡ bitAt s a
-bitAt-stored-out n s o v a h = bitAt-same _ s a (stored-out n s o v (a / 8) h)

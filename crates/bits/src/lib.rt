@@ -3,7 +3,7 @@
 ghost use mathlib.Core.Path.{_≡_};
 ghost use Prim.Native.Nat.{_+_, _/_, _^_, _<_, _≤_};
 ghost use lib.ListN.{length};
-ghost use Rattle.bits.specs.Row.{bitAt, putBit};
+ghost use Rattle.bits.specs.Row.{bitAt, putBit, zeros};
 ghost use Rattle.bits.specs.Number.{num, stored, joined};
 
 // Bit a of the row.
@@ -84,4 +84,18 @@ pub fn join(s: &mut [u8], o: usize, v: u16)
 {
     let both = word(s, o) | v;
     store(s, o, 2, long(both));
+}
+
+// Whether the n bytes from o on are 0. The loop gathers and asks at its end, so that it takes many bytes at a time.
+pub fn all_zero(s: &[u8], o: usize, n: usize) -> bool
+    requires { ⌜ o + n ≤ length (now s) ⌝ }
+    ensures { λ r. ⌜ r ≡ zeros n (now (s .entry)) o ⌝ }
+{
+    let mut sum: u8 = 0;
+    let mut i = 0;
+    while i < n {
+        sum = sum | s[o + i];
+        i += 1;
+    }
+    sum == 0
 }

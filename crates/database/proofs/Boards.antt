@@ -12,10 +12,10 @@ use Rattle.base.proofs.Bits.{pack-lt, pack-more}
 use Rattle.rules.specs.declared.Signers.{Signers}
 use Rattle.state.specs.Layout.{items}
 use Rattle.state.specs.Contents.{Contents}
-use Rattle.state.specs.Sets.{signersOf}
+use Rattle.sets.specs.Sets.{signersOf}
 use Rattle.database.specs.Database.{rowOf, reaches, periodBoard}
 use Rattle.state.proofs.Tab.{getD-tab}
-use Rattle.state.proofs.Words.{signers-counted}
+use Rattle.sets.proofs.Words.{signers-counted}
 
 -- the items of a row whose sets have t signers
 

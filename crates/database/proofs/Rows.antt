@@ -19,12 +19,12 @@ use Rattle.state.specs.Layout.{peers, items}
 use Rattle.state.specs.Facts.{inRange, isPeer, Peer}
 use Rattle.state.specs.Tab.{tab}
 use Rattle.state.specs.Contents.{Contents, contents, Canon, Holds, adding}
-use Rattle.state.specs.Sets.{signersOf, inSet, onItem, knownTo}
+use Rattle.sets.specs.Sets.{signersOf, inSet, onItem, knownTo}
 use Rattle.database.specs.Database.{rowOf, onRow, fetched}
 use Rattle.state.proofs.Tab.{getD-tab}
 use Rattle.state.proofs.Ranges.{peer-within, within-peer, range-within}
 use Rattle.state.proofs.Frame.{has-none}
-use Rattle.state.proofs.Union.{known-is}
+use Rattle.sets.proofs.Union.{known-is}
 
 -- two sets of facts added are their union added
 
@@ -132,20 +132,3 @@ module _ (s : List ℕ) (other p : ℕ) where
         canon = h .canon;
         says = h .says ∙ ap (λ (S : ℕ → ℕ → Bool). adding (knownTo j p S) (contents s)) (ap (λ (l : List Signers). onRow l items) e ∙ fun-ext (λ i. fun-ext (λ k. row-has i k)));
       }
-
--- what a fetch does: peer j's database of the period has what either had, and every other is as it was
-
-pub fetched-known : (j other p k q i l : ℕ) (c : Contents) → fetched j other p c .has (Known k q i l) ≡ ((eqb k j && (eqb q p && c .has (Known other p i l))) || c .has (Known k q i l))
-unfolding fetched adding knownTo
-fetched-known j other p k q i l c = refl
-
-pub fetched-self : (j p : ℕ) (c : Contents) → fetched j j p c ≡ c
-unfolding fetched adding
-fetched-self j p c = λ x. record { has = fun-ext (λ f. here f (either (knownTo j p (λ i k. c .has (Known j p i k)) f))) x; number = c .number; bag = c .bag }
-  where
-    new : Fact → Bool
-    new = knownTo j p (λ i k. c .has (Known j p i k))
-
-    here : (f : Fact) → (new f ≡ true) ⊎ (new f ≡ false) → (new f || c .has f) ≡ c .has f
-    here f (inr e) = rw e
-    here f (inl e) = let w = known-is j p (λ i k. c .has (Known j p i k)) f e in rw e (sym (ap (c .has) (w .2) ∙ w .3))

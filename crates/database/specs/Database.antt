@@ -10,7 +10,7 @@ use Rattle.state.specs.declared.Fact.the-variants.{Known}
 use Rattle.state.specs.Layout.{periods, items}
 use Rattle.state.specs.Tab.{tab}
 use Rattle.state.specs.Contents.{Contents, adding}
-use Rattle.state.specs.Sets.{signersOf, signerCount, inSet, knownTo}
+use Rattle.sets.specs.Sets.{signersOf, signerCount, inSet, knownTo}
 
 -- the signer sets of one period, by item
 unfoldable pub rowOf : Contents → ℕ → ℕ → List Signers

@@ -1,5 +1,5 @@
 // One peer's database: its signer sets by period and item, another's added to them, and the board of a period.
-// It uses state to read and to add; it knows no table and no step.
+// It uses sets to read and to add, and state for what the bytes say; it knows no table and no step.
 ghost use mathlib.Core.Path.{_≡_};
 ghost use Prim.Native.Nat.{_+_, _*_, _^_, _<_, _≤_};
 ghost use lib.Count.{ones as onesIn};
@@ -8,12 +8,12 @@ ghost use Rattle.base.specs.Bits.{digit};
 ghost use Rattle.state.specs.Layout.{items};
 ghost use Rattle.state.specs.Facts.{Row};
 ghost use Rattle.state.specs.Contents.{contents, Canon, Holds, adding};
-ghost use Rattle.state.specs.Sets.{knownTo};
+ghost use Rattle.sets.specs.Sets.{knownTo};
 ghost use Rattle.database.specs.Database.{rowOf, databaseOf, onRow, fetched, periodBoard};
 use rules::Signers;
+use sets::add_signers;
+use sets::signers_of;
 use state::layout;
-use state::sets::add_signers;
-use state::sets::signers_of;
 
 // Peer j's signer sets of period p, by item.
 pub fn row(s: &[u8], j: u8, p: u8) -> [Signers; 64]

@@ -22,7 +22,7 @@ use Rattle.state.specs.Numbers.{peerOf}
 use Rattle.rules.specs.Bag.{entryAt as nth}
 use Rattle.state.specs.Entries.{EntryFits}
 use Rattle.state.specs.Contents.{Contents, Fits}
-use Rattle.state.proofs.Entries.{at-in}
+use Rattle.rules.proofs.Bag.{at-in}
 use Rattle.state.proofs.Ranges.{within-range, within-peer}
 use Rattle.view.specs.declared.Head.{Head}
 use Rattle.view.specs.View.{tableOf, stateOf}

@@ -19,7 +19,7 @@ use Rattle.state.specs.Encode.{encode}
 use Rattle.view.specs.declared.Head.{Head}
 use Rattle.view.specs.View.{tableOf, stateOf}
 use Rattle.view.specs.Effect.{effectOn}
-use Rattle.valid.specs.StateOk.{stateOk}
+use Rattle.view.specs.StateOk.{stateOk}
 
 -- the header of a table
 abbrev pub headOf : List ℕ → Head

@@ -6,7 +6,7 @@ ghost use Rattle.state.specs.Contents.{contents, Canon};
 ghost use Rattle.view.specs.View.{inRow, tableOf, stateOf};
 ghost use Rattle.view.specs.Ready.{Ready};
 ghost use Rattle.guard.specs.Meet.{meets, holdsOf};
-use state::sets::held_in;
+use sets::held_in;
 use view::Head;
 
 // Whether two sets of items have an item in common.

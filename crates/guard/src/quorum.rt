@@ -7,9 +7,9 @@ ghost use Rattle.state.specs.declared.Fact.the-variants.{Shared, Known};
 ghost use Rattle.state.specs.declared.Number.the-variants.{OpenOf};
 ghost use Rattle.state.specs.Contents.{contents};
 ghost use Rattle.view.specs.Ready.{Ready};
+use sets::sharer_count;
+use sets::signer_count;
 use state::numbers::open_of;
-use state::sets::sharer_count;
-use state::sets::signer_count;
 use view::Head;
 
 fn wide(x: u8) -> u32

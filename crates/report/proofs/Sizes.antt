@@ -15,7 +15,7 @@ use Rattle.rules.specs.Bag.{entryAt, periodOf}
 use Rattle.state.specs.declared.Fact.the-variants.{Known, Receipted}
 use Rattle.state.specs.Layout.{peers}
 use Rattle.state.specs.Contents.{Contents}
-use Rattle.state.specs.Sets.{signerCount}
+use Rattle.sets.specs.Sets.{signerCount}
 use Rattle.view.specs.declared.Head.{Head}
 use Rattle.text.specs.Wrote.{each}
 use Rattle.text.specs.Decimal.{decimal, field}

@@ -8,12 +8,12 @@ ghost use Rattle.report.specs.State.{entryLine, bagLine, boardLines, sta
 use crate::lines::put_board;
 use crate::lines::put_db;
 use crate::lines::put_receipt;
+use bag::bag_len;
+use bag::entry_at;
 use rules::Entry;
+use sets::signer_count;
 use state::Fact;
-use state::bag::bag_len;
-use state::bag::entry_at;
 use state::facts::is_there;
-use state::sets::signer_count;
 use text::put_word;
 use view::Head;
 

@@ -1,10 +1,13 @@
 -- Laws of the bag: what an entry more does to what it has, to its backings and to its boards.
-use Prim.Native.Nat.{ℕ, zero, suc}
+use Prim.Native.Nat.{ℕ, zero, suc, _<_}
+use native.Mathlib.Nat.{not-suc-le-zero}
+use native.Mathlib.Omega.{arith}
 use mathlib.Core.Bool.{Bool, true, false, cond, _&&_, _||_}
 use mathlib.Core.List.{List, [], _∷_, _++_, append-nil}
 use mathlib.Core.Path.{_≡_, refl, sym, ap, fun-ext, subst}
 use mathlib.Core.Logic.{_⊎_, inl, inr}
 use lib.Dec.{eqb}
+use lib.ListN.{length}
 use borrow.Author.Tests.{eqb-true, eq-eqb}
 use Rattle.base.specs.Bits.{bit}
 use Rattle.base.specs.Sets.{add2, add3}
@@ -69,6 +72,24 @@ in-enter e a l = enter-cases (λ m. isIn e m ≡ (sameEntry e a || isIn e l)) a 
     there : isIn a l ≡ true → (sameEntry e a ≡ true) ⊎ (sameEntry e a ≡ false) → isIn e l ≡ (sameEntry e a || isIn e l)
     there m (inl q) = rw q (subst (λ (z : Entry). isIn z l ≡ true) (sym (eq-of-same e a q)) m)
     there m (inr q) = rw q
+
+-- what is in a bag stands at some place of it, and the other way
+
+pub in-at : (x : Entry) (bag : List Entry) → isIn x bag ≡ true → (e : ℕ) × (e < length bag) × (entryAt bag e ≡ x)
+unfolding isIn
+in-at x [] q = false-true q
+in-at x (y ∷ bag) q = go (or-cases (sameEntry x y) (isIn x bag) q) (in-at x bag)
+  where
+    go : (sameEntry x y ≡ true) ⊎ (isIn x bag ≡ true) → (isIn x bag ≡ true → (e : ℕ) × (e < length bag) × (entryAt bag e ≡ x))
+        → (e : ℕ) × (e < length (y ∷ bag)) × (entryAt (y ∷ bag) e ≡ x)
+    go (inl h) r = (0, omega arith, sym (eq-of-same x y h))
+    go (inr h) r = let w = r h in (suc (w .0), omega (arith, w .1), w .2)
+
+pub at-in : (x : Entry) (bag : List Entry) (e : ℕ) → e < length bag → entryAt bag e ≡ x → isIn x bag ≡ true
+unfolding isIn
+at-in x [] e l q = absurd (not-suc-le-zero l)
+at-in x (y ∷ bag) zero l q = or-l (sameEntry x y) _ (subst (λ (z : Entry). sameEntry x z ≡ true) (sym q) (same-self x))
+at-in x (y ∷ bag) (suc e) l q = or-r (sameEntry x y) _ (at-in x bag e (omega arith) q)
 
 -- what stands at a number is in the bag, unless there is none
 

@@ -25,7 +25,6 @@ use Rattle.state.proofs.Places.{by-test, at-place}
 use Rattle.state.proofs.Slots.{at-slot}
 use Rattle.state.proofs.Entries.{period-of, board-of}
 use Rattle.state.proofs.Frame.{has-bit, number-byte}
-use Rattle.state.proofs.Append.{bag-length}
 
 -- the period and the board of an entry, as its bytes have them
 
@@ -41,6 +40,11 @@ entry-board s e = board-of _ _ _ _
 pub entry-nth : (s : List ℕ) (e : ℕ) → e < count s → nth (contents s .bag) e ≡ entryAt s e
 unfolding contents
 entry-nth s e l = getD-tab (count s) (entryAt s) e noEntry l
+
+-- how many entries there are
+pub bag-length : (s : List ℕ) → length (contents s .bag) ≡ count s
+unfolding contents
+bag-length s = length-tab (count s) (entryAt s)
 
 module _ (s : List ℕ) (c : Canon s) where
   -- a byte of facts

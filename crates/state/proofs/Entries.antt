@@ -1,20 +1,20 @@
 -- Laws of entries: the four numbers and the eleven bytes of an entry give it back.
-use Prim.Native.Nat.{ℕ, zero, suc, _+_, _/_, _%_, _^_, _<_, _≤_}
+use Prim.Native.Nat.{ℕ, _+_, _/_, _%_, _^_, _<_, _≤_}
 use native.Mathlib.Omega.{arith}
-use native.Mathlib.Nat.{not-suc-le-zero}
 use mathlib.Core.Bool.{Bool, true, false, cond}
-use mathlib.Core.List.{List, [], _∷_}
+use mathlib.Core.List.{List}
 use mathlib.Core.Logic.{_⊎_, inl, inr}
-use mathlib.Core.Path.{_≡_, refl, sym, ap, subst}
+use mathlib.Core.Path.{_≡_, refl, ap}
 use lib.Dec.{eqb}
-use lib.ListN.{length}
-use Rattle.base.proofs.Truth.{split, false-true, is-false, or-l, or-r, or-cases}
+use borrow.Author.Tests.{eqb-true, eqb-false}
+use Rattle.base.specs.Bytes.{byteAt}
+use Rattle.base.proofs.Truth.{either}
 use Rattle.rules.specs.declared.Entry.{Entry}
 use Rattle.rules.specs.declared.Entry.the-variants.{Hash, Backing, Board}
-use Rattle.state.specs.Layout.{signerIn, periodIn, boardIn}
-use Rattle.rules.proofs.Bag.{same-self as entry-self, eq-of-same as entry-same}
-use Rattle.rules.specs.Bag.{kindOf, signerOf, periodOf, boardOf, entryAt as nth, sameEntry, isIn}
+use Rattle.state.specs.Layout.{hashKind, backingKind, boardKind, signerIn, periodIn, boardIn, entryStart}
+use Rattle.rules.specs.Bag.{kindOf, signerOf, periodOf, boardOf}
 use Rattle.state.specs.Entries.{entryOf, entryByte}
+use Rattle.state.specs.Contents.{entryAt, Settled}
 use Rattle.state.proofs.Places.{after}
 
 -- an entry is that of its four numbers
@@ -55,28 +55,18 @@ board-byte x k =
     after o periodIn _ _ _ (omega arith) (
     after o boardIn _ _ _ (omega arith) (ap (λ (n : ℕ). boardOf x / 256 ^ n % 256) (omega arith))))
 
--- what is in a bag stands at some place of it, and the other way
-
-pub in-at : (x : Entry) (bag : List Entry) → isIn x bag ≡ true → (e : ℕ) × (e < length bag) × (nth bag e ≡ x)
-unfolding isIn
-in-at x [] q = false-true q
-in-at x (y ∷ bag) q = go (or-cases (sameEntry x y) (isIn x bag) q) (in-at x bag)
+-- an entry's bytes are settled if the kind is one of the three, and a board has no signer
+pub settled-by : (s : List ℕ) (e : ℕ) → hashKind ≤ byteAt s (entryStart e) → byteAt s (entryStart e) ≤ boardKind
+    → (byteAt s (entryStart e) ≡ boardKind → byteAt s (entryStart e + signerIn) ≡ 0) → Settled s e
+unfolding entryAt entryOf
+settled-by s e low high none = go (either (eqb kind hashKind)) (either (eqb kind backingKind))
   where
-    go : (sameEntry x y ≡ true) ⊎ (isIn x bag ≡ true) → (isIn x bag ≡ true → (e : ℕ) × (e < length bag) × (nth bag e ≡ x))
-        → (e : ℕ) × (e < length (y ∷ bag)) × (nth (y ∷ bag) e ≡ x)
-    go (inl h) r = (0, omega arith, sym (entry-same x y h))
-    go (inr h) r = let w = r h in (suc (w .0), omega (arith, w .1), w .2)
+    kind : ℕ
+    kind = byteAt s (entryStart e)
 
-pub at-in : (x : Entry) (bag : List Entry) (e : ℕ) → e < length bag → nth bag e ≡ x → isIn x bag ≡ true
-unfolding isIn
-at-in x [] e l q = absurd (not-suc-le-zero l)
-at-in x (y ∷ bag) zero l q = or-l (sameEntry x y) _ (subst (λ (z : Entry). sameEntry x z ≡ true) (sym q) (entry-self x))
-at-in x (y ∷ bag) (suc e) l q = or-r (sameEntry x y) _ (at-in x bag e (omega arith) q)
-
--- the search: here it is, or it was at no place
-
-pub found : (x : Entry) (bag : List Entry) (e : ℕ) → e < length bag → sameEntry x (nth bag e) ≡ true → true ≡ isIn x bag
-found x bag e l q = sym (at-in x bag e l (sym (entry-same x (nth bag e) q)))
-
-pub not-found : (x : Entry) (bag : List Entry) (n : ℕ) → length bag ≤ n → ((e : ℕ) → e < n → sameEntry x (nth bag e) ≡ false) → false ≡ isIn x bag
-not-found x bag n l q = sym (is-false (isIn x bag) (λ h. let w = in-at x bag h in split (subst (λ (z : Entry). sameEntry x z ≡ true) (sym (w .2)) (entry-self x)) (q (w .0) (omega (arith, w .1)))))
+    go : (eqb kind hashKind ≡ true) ⊎ (eqb kind hashKind ≡ false) → (eqb kind backingKind ≡ true) ⊎ (eqb kind backingKind ≡ false) → Settled s e
+    go (inl h) b = record { kind = rw h (eqb-true kind hashKind h); signer = rw h }
+    go (inr h) (inl b) = record { kind = rw (h, b) (eqb-true kind backingKind b); signer = rw (h, b) }
+    go (inr h) (inr b) =
+        let last : kind ≡ boardKind = omega (arith, eqb-false kind hashKind h, eqb-false kind backingKind b) in
+        record { kind = rw (h, b) last; signer = rw (h, b) (none last) }

@@ -21,8 +21,7 @@ use Rattle.state.specs.Entries.{EntryFits}
 use Rattle.state.specs.Tab.{tab}
 use Rattle.state.specs.Contents.{count, entryAt, contents, Canon, Holds, Fits, empty}
 use Rattle.state.proofs.Frame.{number-byte, number-none}
-use Rattle.state.proofs.Append.{bag-length}
-use Rattle.state.proofs.Encode.{entry-nth, entry-period, entry-board}
+use Rattle.state.proofs.Encode.{bag-length, entry-nth, entry-period, entry-board}
 
 -- a state of zero bytes
 module _ (s : List ℕ) (long : length s ≡ size) (zeros : (i : ℕ) → byteAt s i ≡ 0) where

@@ -17,7 +17,7 @@ use Rattle.state.specs.Layout.{openAt, countAt}
 use Rattle.state.specs.Facts.{sameFact, inRange, Within, isPeer, Peer}
 use Rattle.state.specs.Places.{place}
 use Rattle.state.specs.Numbers.{sameNumber, peerOf, slot}
-use Rattle.state.specs.Contents.{Contents, contents, Canon, Holds, adding, insert, store}
+use Rattle.state.specs.Contents.{contents, Canon, Holds, adding, insert, store}
 use Rattle.state.proofs.Ranges.{fact-same, range-within, within-range, peer-within, within-peer}
 use Rattle.state.proofs.Places.{place-lt, same-place}
 use Rattle.state.proofs.Slots.{number-self, number-same, slot-within, slot-same}
@@ -97,12 +97,3 @@ store-holds s n v c e h =
 
 pub store-done : (s : List ℕ) (n : Number) (v b : ℕ) → Canon s → Peer (peerOf n) → v < 256 → b ≡ slot n → Holds (set s b v) (store n v (contents s))
 store-done s n v b c w h at = subst (λ (x : ℕ). Holds (set s x v) (store n v (contents s))) (sym at) (store-holds s n v c (within-peer (peerOf n) w) h)
-
--- a fact that is there already changes nothing
-pub insert-there : (f : Fact) (c : Contents) → c .has f ≡ true → insert f c ≡ c
-unfolding insert adding
-insert-there f c e = λ i. record { has = fun-ext (λ g. at g (either (sameFact g f))) i; number = c .number; bag = c .bag }
-  where
-    at : (g : Fact) → (sameFact g f ≡ true) ⊎ (sameFact g f ≡ false) → (sameFact g f || c .has g) ≡ c .has g
-    at g (inl q) = rw q (sym (ap (c .has) (fact-same g f q) ∙ e))
-    at g (inr q) = rw q

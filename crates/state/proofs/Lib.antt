@@ -5,11 +5,7 @@ pub mod Slots
 pub mod Entries
 pub mod Frame
 pub mod Holds
-pub mod Append
 pub mod Encode
 pub mod Decode
 pub mod Fresh
-pub mod Words
-pub mod Search
-pub mod Union
 pub mod Example

@@ -5,6 +5,4 @@ pub mod Places
 pub mod Numbers
 pub mod Entries
 pub mod Contents
-pub mod Bag
 pub mod Encode
-pub mod Sets

@@ -1,13 +1,11 @@
-// The bytes of the engine's state: at which byte what stands, what the bytes say, and how they change.
-// Everything above this crate sees what the bytes say, `contents`, and no byte.
+// The bytes of the engine's state: at which byte what stands, what the bytes say, and its facts and numbers read and changed.
+// The bag's entries are in bag, whole sets in sets. Above these three all but entries and valid see what the bytes say, `contents`, and no byte.
 // It uses bits to read and to write, and the vocabulary of rules.
-pub mod bag;
 pub mod facts;
 pub mod layout;
 pub mod numbers;
-mod place;
-mod range;
-pub mod sets;
+pub mod place;
+pub mod range;
 
 // What a state can hold. Peers count from 1; periods, items and entries from 0.
 pub enum Fact {

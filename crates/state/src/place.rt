@@ -12,21 +12,21 @@ use crate::range::wide;
 
 // Places in the order of period and item, of peer and period, and of peer, period and item.
 
-pub(crate) fn cell_of(p: u8, i: u8) -> usize
+pub fn cell_of(p: u8, i: u8) -> usize
     requires { ⌜ Cell p i ⌝ }
     ensures { λ r. ⌜ (r ≡ cell p i) × (r < periods * items) ⌝ }
 {
     wide(p) * layout::ITEMS + wide(i)
 }
 
-pub(crate) fn row_of(j: u8, p: u8) -> usize
+pub fn row_of(j: u8, p: u8) -> usize
     requires { ⌜ Row j p ⌝ }
     ensures { λ r. ⌜ (r ≡ row j p) × (r < peers * periods) ⌝ }
 {
     wide(j - 1) * layout::PERIODS + wide(p)
 }
 
-pub(crate) fn spot_of(j: u8, p: u8, i: u8) -> usize
+pub fn spot_of(j: u8, p: u8, i: u8) -> usize
     requires { ⌜ Spot j p i ⌝ }
     ensures { λ r. ⌜ (r ≡ spot j p i) × (r < peers * (periods * items)) ⌝ }
 {

@@ -29,7 +29,7 @@ pub(crate) fn is_item(i: u8) -> bool
     wide(i) < layout::ITEMS
 }
 
-pub(crate) fn is_cell(p: u8, i: u8) -> bool
+pub fn is_cell(p: u8, i: u8) -> bool
     ensures { λ r. ⌜ r ≡ isCell p i ⌝ }
 {
     if wide(p) < layout::PERIODS {
@@ -38,7 +38,7 @@ pub(crate) fn is_cell(p: u8, i: u8) -> bool
     false
 }
 
-pub(crate) fn is_row(j: u8, p: u8) -> bool
+pub fn is_row(j: u8, p: u8) -> bool
     ensures { λ r. ⌜ r ≡ isRow j p ⌝ }
 {
     if is_peer(j) {
@@ -47,7 +47,7 @@ pub(crate) fn is_row(j: u8, p: u8) -> bool
     false
 }
 
-pub(crate) fn is_spot(k: u8, p: u8, i: u8) -> bool
+pub fn is_spot(k: u8, p: u8, i: u8) -> bool
     ensures { λ r. ⌜ r ≡ isSpot k p i ⌝ }
 {
     if is_peer(k) {

@@ -27,7 +27,7 @@ use Rattle.rules.proofs.Bag.{eq-of-same, same-self}
 use Rattle.state.specs.declared.Fact.the-variants.{Heard}
 use Rattle.state.specs.Layout.{hashKind, backingKind}
 use Rattle.state.specs.Contents.{Contents, contents}
-use Rattle.state.specs.Bag.{signerWith}
+use Rattle.bag.specs.Bag.{signerWith}
 use Rattle.view.specs.declared.Head.{Head}
 use Rattle.view.specs.View.{noClash, told}
 use Rattle.view.specs.Ready.{Ready}

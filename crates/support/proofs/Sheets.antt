@@ -19,7 +19,7 @@ use Rattle.base.proofs.Truth.{either, split, not-i, or-l, and-l, and-r}
 use Rattle.rules.specs.Rules.{boardFrom}
 use Rattle.state.specs.declared.Fact.the-variants.{Posted, Known}
 use Rattle.state.specs.Contents.{Contents, contents}
-use Rattle.state.specs.Sets.{signerCount, postedOf}
+use Rattle.sets.specs.Sets.{signerCount, postedOf}
 use Rattle.database.specs.Database.{reaches, periodBoard}
 use Rattle.view.specs.declared.Head.{Head}
 use Rattle.view.specs.View.{noClash, tableOf, stateOf}

@@ -8,7 +8,7 @@ use Rattle.rules.specs.Bag.{entryAt}
 use Rattle.state.specs.declared.Fact.the-variants.{Heard}
 use Rattle.state.specs.Layout.{peers, hashKind, backingKind}
 use Rattle.state.specs.Contents.{Contents}
-use Rattle.state.specs.Bag.{signerWith}
+use Rattle.bag.specs.Bag.{signerWith}
 
 -- the signer of entry e if it is a hash of period p and board B that peer j heard, else 0
 unfoldable pub heardSigner : Contents → ℕ → ℕ → ℕ → ℕ → ℕ

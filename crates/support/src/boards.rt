@@ -17,10 +17,10 @@ use crate::entry::board_of_entry;
 use crate::entry::is_full;
 use crate::entry::period_of;
 use crate::signers::few_backers;
+use bag::entry_at;
 use database::board_of;
 use rules::Entry;
-use state::bag::entry_at;
-use state::sets::posted;
+use sets::posted;
 use view::Head;
 
 // Peer j's board of period p.

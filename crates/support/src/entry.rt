@@ -5,10 +5,10 @@ ghost use lib.Dec.{ltb};
 ghost use Rattle.rules.specs.Bag.{isHash, isBacking, isFull, entryAt, periodOf, boardOf};
 ghost use Rattle.state.specs.declared.Number.the-variants.{OpenOf};
 ghost use Rattle.state.specs.Contents.{contents, Canon};
+use bag::bag_len;
+use bag::entry_at;
+use bag::is_in;
 use rules::Entry;
-use state::bag::bag_len;
-use state::bag::entry_at;
-use state::bag::is_in;
 use state::layout;
 use state::numbers::open_of;
 

@@ -3,7 +3,6 @@ use Prim.Native.Nat.{ℕ, _*_}
 use mathlib.Core.Bool.{Bool, true, false, _||_, not}
 use mathlib.Core.List.{List}
 use mathlib.Core.Path.{_≡_, refl, ap, subst, _∙_}
-use Rattle.base.specs.Below.{every}
 use Rattle.base.proofs.Truth.{split, imp-i, and-i, and-l, and-r}
 use Rattle.base.proofs.Below.{every-at, every-of}
 use Rattle.bits.specs.Row.{bitAt}
@@ -15,7 +14,7 @@ use Rattle.state.specs.Contents.{contents}
 use Rattle.state.proofs.Ranges.{range-within, within-range}
 use Rattle.state.proofs.Places.{place-lt, at-place, fact-at}
 use Rattle.view.specs.declared.Head.{Head}
-use Rattle.valid.specs.StateOk.{factOk, factsOk}
+use Rattle.view.specs.StateOk.{factOk, factsOk}
 
 module _ (h : Head) (s : List ℕ) where
   there : (b c : Bool) → not b || c ≡ true → b ≡ true → c ≡ true

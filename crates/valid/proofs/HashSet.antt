@@ -15,7 +15,6 @@ use Rattle.base.proofs.Bits.{bit-none, pack-bit, pack-ext}
 use Rattle.base.proofs.Truth.{and-false}
 use Rattle.bits.specs.Row.{bitAt, putBit, Bytes}
 use Rattle.bits.proofs.Row.{length-put, bytes-put, bitAt-put}
-use Rattle.rules.specs.declared.Entry.{Entry}
 use Rattle.rules.specs.declared.Entry.the-variants.{Hash, Backing, Board}
 use Rattle.rules.specs.Bag.{isHash, noEntry, entryAt as nthOf}
 use Rattle.state.specs.Layout.{entryStart, hashKind}

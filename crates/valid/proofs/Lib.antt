@@ -1,12 +1,8 @@
 pub mod Facts
 pub mod Peers
-pub mod Bag
 pub mod Ready
-pub mod Chain
 pub mod Only
 pub mod Masks
 pub mod Regions
 pub mod HashSet
 pub mod Fields
-pub mod Apart
-pub mod Steps

@@ -6,28 +6,19 @@ use mathlib.Core.Bool.{Bool, true, false, _&&_, _||_, not}
 use mathlib.Core.List.{List}
 use mathlib.Core.Path.{_≡_, refl, sym, ap, ap₂, _∙_}
 use lib.Arith.{digits-div, digits-mod}
-use lib.Bits.{bitOr, bitXor, or-lt, xor-self, xor-add-and, and-le-l, and-le-r, or-add-and}
+use lib.Bits.{bitOr, bitXor, or-lt, xor-self, xor-add-and, and-le-l, and-le-r}
 use lib.Dec.{eqb, ltb}
 use borrow.Author.Tests.{eqb-true, eq-eqb, ltb-true, lt-ltb}
 use Rattle.base.specs.Below.{every}
 use Rattle.base.specs.Bits.{bit}
 use Rattle.base.specs.Bytes.{byteAt}
-use Rattle.base.proofs.Truth.{iff, and-i, and-l, and-r, or-l, imp-i}
-use Rattle.base.proofs.Below.{every-at, every-of, every-ext, every-step, every-rows}
+use Rattle.base.proofs.Truth.{iff, or-l, imp-i}
+use Rattle.base.proofs.Below.{every-at, every-of, every-ext, every-rows}
 use Rattle.base.proofs.Bits.{bit-or, bit-none, pack-bit, pack-ext}
-use Rattle.bits.specs.Row.{bitAt, Bytes}
-use Rattle.valid.specs.Rows.{onlyIn, zeros, none, gated, inRows, mask}
-use Rattle.valid.proofs.Chain.{by-loop}
-
--- a sum of bits is 0 where both are
-pub or-none : (a b : ℕ) → eqb (bitOr a b) 0 ≡ (eqb a 0 && eqb b 0)
-or-none a b = iff _ _
-    (λ e. let z = eqb-true (bitOr a b) 0 e in and-i _ _ (eq-eqb a 0 (omega (arith, or-add-and a b, and-le-r a b, and-le-l a b))) (eq-eqb b 0 (omega (arith, or-add-and a b, and-le-l a b))))
-    (λ e. eq-eqb (bitOr a b) 0 (let p = eqb-true a 0 (and-l (eqb a 0) (eqb b 0) e) in let q = eqb-true b 0 (and-r (eqb a 0) (eqb b 0) e) in omega (arith, or-add-and a b)))
-
--- a loop that gathers numbers and asks at its end whether all were 0: one more
-pub gather-more : (f : ℕ → Bool) (i sum x : ℕ) → eqb sum 0 ≡ every i f → eqb x 0 ≡ f i → eqb (bitOr sum x) 0 ≡ every (i + 1) f
-gather-more f i sum x p q = or-none sum x ∙ every-step f i (eqb sum 0) (eqb x 0) p q
+use Rattle.base.proofs.Chain.{by-loop}
+use Rattle.bits.specs.Row.{bitAt, zeros, Bytes}
+use Rattle.bits.proofs.Zeros.{zeroByte, zeros-all, gather-more}
+use Rattle.valid.specs.Rows.{onlyIn, none, gated, inRows}
 
 -- a number has only bits of m: no bit is left beside those of m
 abbrev pub beside : ℕ → ℕ → ℕ
@@ -95,26 +86,14 @@ module _ (s : List ℕ) (o : ℕ) where
       ∙ every-ext 8 _ (λ k. not (bit (byteAt s (o + i)) k) || bitAt m (8 * i + k)) (λ k h. ap (λ (q : Bool). not (bit (byteAt s (o + i)) k) || q) (sym (bit-in m i k h)))
 
   -- no bits
-  unfoldable pub zeroByte : ℕ → Bool
-  zeroByte i = eqb (byteAt s (o + i)) 0
-
-  byte-none : (i : ℕ) → byteAt s (o + i) < 256 → zeroByte i ≡ byteIn none i
+  byte-none : (i : ℕ) → byteAt s (o + i) < 256 → zeroByte s o i ≡ byteIn none i
   unfolding byteIn none zeroByte
   byte-none i h = no-bits (byteAt s (o + i)) h
 
-  -- loops that gather: one byte more
-
+  -- a loop that gathers: one byte more
   pub only-more : (m : List ℕ) (i sum : ℕ) → eqb sum 0 ≡ every i (byteIn (bitAt m)) → byteAt s (o + i) < 256 → byteAt m i < 256
       → eqb (bitOr sum (beside (byteAt s (o + i)) (byteAt m i))) 0 ≡ every (i + 1) (byteIn (bitAt m))
   only-more m i sum e b c = gather-more (byteIn (bitAt m)) i sum (beside (byteAt s (o + i)) (byteAt m i)) e (byte-masked m i b c)
-
-  pub zeros-more : (i sum : ℕ) → eqb sum 0 ≡ every i zeroByte → eqb (bitOr sum (byteAt s (o + i))) 0 ≡ every (i + 1) zeroByte
-  unfolding zeroByte
-  zeros-more i sum e = gather-more zeroByte i sum (byteAt s (o + i)) e refl
-
-  pub zeros-all : (n : ℕ) → zeros n s o ≡ every n zeroByte
-  unfolding zeros zeroByte
-  zeros-all n = refl
 
   -- f where b holds, and none where it does not
 
@@ -124,7 +103,7 @@ module _ (s : List ℕ) (o : ℕ) where
 
   pub only-zeros : (b : Bool) (f : ℕ → Bool) (n : ℕ) → Bytes s → b ≡ false → zeros n s o ≡ onlyIn n s o (gated b f)
   unfolding gated none
-  only-zeros b f n h e = rw e (zeros-all n ∙ every-ext n zeroByte (byteIn none) (λ i l. byte-none i (h (o + i))) ∙ sym (only-bytes n none))
+  only-zeros b f n h e = rw e (zeros-all s o n ∙ every-ext n (zeroByte s o) (byteIn none) (λ i l. byte-none i (h (o + i))) ∙ sym (only-bytes n none))
 
   -- rows of w bytes, each by itself
   unfoldable pub rowIn : ℕ → ℕ → (ℕ → Bool) → ℕ → Bool

@@ -20,12 +20,12 @@ use Rattle.state.specs.Layout.{size}
 use Rattle.state.specs.Contents.{contents}
 use Rattle.view.specs.declared.Head.{Head}
 use Rattle.view.specs.View.{noClash, tableOf, stateOf}
-use Rattle.valid.specs.StateOk.{factOk, factsOk, peersOk, bagOk, stateOk}
+use Rattle.view.specs.StateOk.{factOk, factsOk, peersOk, bagOk, stateOk}
 use Rattle.view.specs.Ready.{Room, Ready}
 use Rattle.view.proofs.Heard.{told-number, told-in, number-told}
 use Rattle.valid.proofs.Facts.{fact-of-ok, ok-of-facts}
 use Rattle.valid.proofs.Peers.{Numbers, peers-of-ok, ok-of-peers}
-use Rattle.valid.proofs.Bag.{canon-of-ok, bag-of-ok, ok-of-bag}
+use Rattle.entries.proofs.Bag.{canon-of-ok, bag-of-ok, ok-of-bag}
 
 module _ (h : Head) (s : List ℕ) where
   -- from the test

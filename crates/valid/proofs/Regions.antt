@@ -11,6 +11,7 @@ use Rattle.base.specs.Below.{every}
 use Rattle.base.specs.Bytes.{between}
 use Rattle.base.proofs.Truth.{iff, and-r, and-false}
 use Rattle.base.proofs.Below.{every-ext, every-parts}
+use Rattle.base.proofs.Chain.{stop, pass}
 use Rattle.bits.specs.Row.{bitAt}
 use Rattle.rules.specs.declared.Entry.{Entry}
 use Rattle.state.specs.declared.Fact.{Fact}
@@ -20,11 +21,10 @@ use Rattle.state.specs.Places.{place, factAt, postedBy, signedBy, sharedBy, rec
 use Rattle.state.specs.Contents.{contents}
 use Rattle.state.proofs.Places.{fact-at}
 use Rattle.view.specs.declared.Head.{Head}
-use Rattle.valid.specs.StateOk.{isSpot, factOk, factsOk}
+use Rattle.view.specs.StateOk.{isSpot, factOk, factsOk}
 use Rattle.valid.specs.Rows.{onlyIn, first, inRows, mask}
 use Rattle.valid.specs.Regions.{entryBytes, hashIn, cells, seats, spots, postedOk, signedOk, sharedOk, receiptedOk, heldOk, knownOk, heardOk, itemSetsOk, peerSetsOk}
 use Rattle.valid.proofs.Masks.{only-of-mask, rows-of-mask, tables-of-mask}
-use Rattle.valid.proofs.Chain.{stop, pass}
 
 -- peers count from 1, and their bits from 0
 peer-bit : (n a : ℕ) → between 1 (a + 1) n ≡ ltb a n

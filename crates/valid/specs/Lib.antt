@@ -1,4 +1,3 @@
-pub mod StateOk
 pub mod Rows
 pub mod Regions
 pub mod Numbers

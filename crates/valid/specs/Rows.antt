@@ -2,11 +2,10 @@
 use Prim.Native.Nat.{ℕ, _+_, _*_, _/_, _%_}
 use mathlib.Core.Bool.{Bool, false, _&&_, _||_, not}
 use mathlib.Core.List.{List}
-use lib.Dec.{eqb, ltb}
+use lib.Dec.{ltb}
 use lib.ListN.{length}
 use Rattle.base.specs.Below.{every}
 use Rattle.base.specs.Bits.{pack}
-use Rattle.base.specs.Bytes.{byteAt}
 use Rattle.bits.specs.Row.{bitAt}
 use Rattle.state.specs.Layout.{peers, periods}
 use Rattle.state.specs.Tab.{tab}
@@ -14,10 +13,6 @@ use Rattle.state.specs.Tab.{tab}
 -- of the bits of the n bytes from o on, numbered from 0, only those that pass f are 1
 unfoldable pub onlyIn : ℕ → List ℕ → ℕ → (ℕ → Bool) → Bool
 onlyIn n s o f = every (8 * n) (λ k. not (bitAt s (8 * o + k)) || f k)
-
--- the n bytes from o on are 0
-unfoldable pub zeros : ℕ → List ℕ → ℕ → Bool
-zeros n s o = every n (λ i. eqb (byteAt s (o + i)) 0)
 
 -- none, and the first n
 

@@ -2,7 +2,7 @@
 ghost use mathlib.Core.Path.{_≡_};
 ghost use lib.ListN.{length};
 ghost use Rattle.state.specs.Layout.{size};
-ghost use Rattle.valid.specs.StateOk.{peersOk};
+ghost use Rattle.view.specs.StateOk.{peersOk};
 ghost use Rattle.valid.specs.Numbers.{numbersOk};
 use crate::wide::wide;
 use state::layout::DOWN;

@@ -1,18 +1,16 @@
 // Row 14 of the numbers on the report: whether a lent buffer is a state of the table. A state need not be one that steps lead to.
-// It uses state's layout, and view for what a good state is. It is the one crate above state that reads bytes by their places.
+// It uses entries for the bag, state's layout and bits for the rest, and view for what row 14 asks. As entries does, it reads bytes by their places.
 ghost use mathlib.Core.Path.{_≡_};
-ghost use Rattle.valid.specs.StateOk.{stateOk};
+ghost use Rattle.view.specs.StateOk.{stateOk};
 ghost use Rattle.view.specs.Ready.{Room};
 use crate::counters::peers_ok;
-use crate::entries::bag_ok;
-use crate::entries::count_of;
 use crate::sets::facts_ok;
+use entries::bag_ok;
+use entries::count_of;
 use state::layout::SIZE;
 use view::Head;
 
 mod counters;
-mod distinct;
-mod entries;
 mod hashes;
 mod mask;
 mod rows;

@@ -3,23 +3,9 @@ ghost use mathlib.Core.Path.{_≡_};
 ghost use Prim.Native.Nat.{_+_, _*_, _≤_};
 ghost use lib.ListN.{length};
 ghost use Rattle.state.specs.Layout.{peers, periods};
-ghost use Rattle.valid.specs.Rows.{zeros, masked, maskedIf, rowsMasked, tableMaskedIf, tablesMasked};
+ghost use Rattle.valid.specs.Rows.{masked, maskedIf, rowsMasked, tableMaskedIf, tablesMasked};
 use state::layout::PEERS;
 use state::layout::PERIODS;
-
-// Whether the n bytes from o on are 0.
-pub(crate) fn all_zero(s: &[u8], o: usize, n: usize) -> bool
-    requires { ⌜ o + n ≤ length (now s) ⌝ }
-    ensures { λ r. ⌜ r ≡ zeros n (now (s .entry)) o ⌝ }
-{
-    let mut sum: u8 = 0;
-    let mut i = 0;
-    while i < n {
-        sum = sum | s[o + i];
-        i += 1;
-    }
-    sum == 0
-}
 
 // Whether of the bits from byte o on, as many as the mask has, only those are 1 that are 1 in the mask.
 pub(crate) fn only(s: &[u8], o: usize, mask: &[u8]) -> bool
@@ -43,7 +29,7 @@ fn row(s: &[u8], o: usize, there: bool, mask: &[u8]) -> bool
     if there {
         return only(s, o, mask);
     }
-    all_zero(s, o, mask.len())
+    bits::all_zero(s, o, mask.len())
 }
 
 // The same for all rows from byte o on, of which the first `used` are those of the table.
@@ -69,7 +55,7 @@ fn table(s: &[u8], o: usize, there: bool, used: usize, mask: &[u8]) -> bool
     if there {
         return each_row(s, o, PERIODS, used, mask);
     }
-    all_zero(s, o, PERIODS * mask.len())
+    bits::all_zero(s, o, PERIODS * mask.len())
 }
 
 // The same for all peers, of whom the table has the first n.

@@ -1,6 +1,6 @@
 // The contents of a state's bytes as the state of the rules, and what each step does to them.
-// Here bytes meet rules. What stands above speaks of contents and of no place in the bytes, but for row 14.
-// It uses state, database and rules; it has no code.
+// Here bytes meet rules. What stands above speaks of contents and of no place in the bytes, but for row 14, which is said here and tested by entries and valid.
+// It uses state, sets and database for what the bytes say, and rules; it has no code.
 
 // What the inner step needs of a table: its header, read once.
 pub struct Head {

@@ -6,7 +6,7 @@ use lib.ListN.{length}
 use borrow.Author.Needs.{needs}
 use Rattle.state.specs.Layout.{items}
 use Rattle.state.specs.Contents.{contents, Holds, adding}
-use Rattle.state.specs.Sets.{knownTo}
+use Rattle.sets.specs.Sets.{knownTo}
 use Rattle.database.specs.Database.{onRow}
 use Rattle.database.proofs.Rows.{row-none, row-more, row-end}
 use Rattle.database.proofs.add_row.Statement.{statement}

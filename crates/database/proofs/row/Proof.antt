@@ -6,7 +6,7 @@ use borrow.Author.Needs.{needs}
 use Rattle.state.specs.Layout.{items}
 use Rattle.state.specs.Tab.{FilledTo}
 use Rattle.state.specs.Contents.{contents}
-use Rattle.state.specs.Sets.{signersOf}
+use Rattle.sets.specs.Sets.{signersOf}
 use Rattle.database.specs.Database.{rowOf}
 use Rattle.state.proofs.Tab.{filled-none, filled-more, filled-all}
 use Rattle.database.proofs.row.Statement.{statement}

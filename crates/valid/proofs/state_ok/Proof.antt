@@ -1,8 +1,8 @@
 -- The tests in the definition's order.
 use borrow.Author.Needs.{needs}
-use Rattle.valid.proofs.Chain.{by-tests}
-use Rattle.valid.specs.StateOk.{stateOk}
-use Rattle.valid.proofs.Steps.{few-entries}
+use Rattle.base.proofs.Chain.{by-tests}
+use Rattle.view.specs.StateOk.{stateOk}
+use Rattle.entries.proofs.Steps.{few-entries}
 use Rattle.valid.proofs.state_ok.Statement.{statement}
 use Rattle.valid.proofs.state_ok.Tie as tie
 

@@ -1,0 +1,64 @@
+-- Each return is settled by the tests before it.
+use borrow.Author.Tests.{eq-eqb, ne-eqb}
+use Rattle.bag.specs.Bag.{writtenSigner}
+use borrow.Author.Needs.{needs}
+use Rattle.bag.proofs.written_signer.Statement.{statement}
+use Rattle.bag.proofs.written_signer.Tie as tie
+
+add-if1 : tie.Need-add-if1
+add-if1 c = search needs
+
+shared-slice-read-if1 : tie.Need-shared-slice-read-if1
+shared-slice-read-if1 c = search needs
+
+returns : tie.Need-returns
+unfolding writtenSigner
+returns c = rw (ne-eqb _ _ (c .if1 .taken))
+
+shared-slice-read-if2 : tie.Need-shared-slice-read-if2
+shared-slice-read-if2 c = search needs
+
+returns-2 : tie.Need-returns-2
+unfolding writtenSigner
+returns-2 c = let p = c .before .before in rw (eq-eqb _ _ (p .if1 .left), ne-eqb _ _ (c .if2 .taken))
+
+add-load : tie.Need-add-load
+add-load c = search needs
+
+load-requires : tie.Need-load-requires
+load-requires c κs = search needs
+
+returns-3 : tie.Need-returns-3
+unfolding writtenSigner
+returns-3 c = let k = c .before .before in
+    let p = k .before .before in
+    rw (eq-eqb _ _ (p .if1 .left), eq-eqb _ _ (k .if2 .left), ← c .before .load .ensures, ne-eqb _ _ (c .if3 .taken))
+
+add-result : tie.Need-add-result
+add-result c = search needs
+
+shared-slice-read-result : tie.Need-shared-slice-read-result
+shared-slice-read-result c = search needs
+
+returns-4 : tie.Need-returns-4
+unfolding writtenSigner
+returns-4 c = let b = c .before in
+    let k = b .before .before in
+    let p = k .before .before in
+    rw (eq-eqb _ _ (p .if1 .left), eq-eqb _ _ (k .if2 .left), ← b .before .load .ensures, eq-eqb _ _ (b .if3 .left))
+
+pub written-signer-spec : {M : Type 1} → statement M
+written-signer-spec =
+    tie.close
+    (tie.spec
+    add-if1
+    shared-slice-read-if1
+    returns
+    shared-slice-read-if2
+    returns-2
+    add-load
+    load-requires
+    returns-3
+    add-result
+    shared-slice-read-result
+    returns-4)

@@ -1,0 +1,4 @@
+pub mod Apart
+pub mod Bag
+pub mod Fields
+pub mod Steps

@@ -1,0 +1,20 @@
+-- The same entry has the same mark, so one whose mark was not seen is new.
+use borrow.Author.Needs.{needs}
+use Rattle.entries.proofs.Apart.{mark-fits, unseen-new, before-new}
+use Rattle.entries.proofs.distinct.is_new.Statement.{statement}
+use Rattle.entries.proofs.distinct.is_new.Tie as tie
+
+has-requires : tie.Need-has-requires
+has-requires c κs = mark-fits _ _ _ _ _ (c .before .before .pre .1 .1 .0) (c .before .before .pre .1 .1 .1)
+
+returns : tie.Need-returns
+returns c = unseen-new _ _ _ _ _ (c .before .before .before .before .pre .1 .1 .0) (c .before .before .before .before .pre .1 .1 .1) (c .before .has .ensures) (c .if1 .taken)
+
+is-before-requires : tie.Need-is-before-requires
+is-before-requires c κs = search needs
+
+returns-2 : tie.Need-returns-2
+returns-2 c = before-new _ _ _ (c .is-before .ensures)
+
+pub is-new-spec : {M : Type 1} → statement M
+is-new-spec = tie.close (tie.spec has-requires returns is-before-requires returns-2)
