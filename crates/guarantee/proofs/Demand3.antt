@@ -25,7 +25,7 @@ use Rattle.engine.specs.Engine.{headOf, boardTable, stepAnswer, stepBytes, fres
 use Rattle.engine.proofs.Calls.{room-of}
 use Rattle.engine.proofs.Start.{fresh-state, fresh-ready}
 use Rattle.engine.proofs.Steps.{step-answers, step-leaves}
-use Rattle.guarantee.specs.Calls.{afterCalls}
+use Rattle.guarantee.specs.Demand3.{HonestEnough, afterCalls, AlwaysSafe}
 
 module _ (table : List ℕ) (fit : refusal table ≡ 0) where
   abbrev T : Table
@@ -48,8 +48,7 @@ module _ (table : List ℕ) (fit : refusal table ≡ 0) where
 
   premise : thresholdOf table ≤ honestCount table → Premise T
   unfolding isHonest
-  premise enough = counted T refl (sound table fit .threshold-rule)
-      enough (clash-in-sym table) (clash-in-self table)
+  premise enough = counted T refl (sound table fit .threshold-rule) enough (clash-in-sym table) (clash-in-self table)
 
-  pub demand-3-on-bytes : thresholdOf table ≤ honestCount table → (calls : List (List ℕ)) → Safe T (afterCalls table) calls
-  demand-3-on-bytes enough calls = subst (λ (after : List (List ℕ) → World). Safe T after calls) (sym (fun-ext as-ruled)) (demand-3 T (premise enough) calls)
+pub demand-3-on-bytes : (table : List ℕ) → HonestEnough table → AlwaysSafe table
+demand-3-on-bytes table H calls = subst (λ (after : List (List ℕ) → World). Safe (boardTable table) after calls) (sym (fun-ext (as-ruled table (H .taken)))) (demand-3 (boardTable table) (premise table (H .taken) (H .honest)) calls)

@@ -15,7 +15,7 @@ use Rattle.engine.specs.Engine.{stepAnswer, stepBytes, freshState}
 use Rattle.rehearsal.specs.Input.{tableIn, inputRefusal, stepCount, callAt}
 use Rattle.rehearsal.specs.Rehearsal.{stateAt, lastState}
 use Rattle.rehearsal.proofs.Taking.{taken}
-use Rattle.guarantee.specs.Calls.{afterCalls}
+use Rattle.guarantee.specs.Demand3.{afterCalls}
 use Rattle.guarantee.specs.Rehearsed.{callsIn, ShownSafe}
 use Rattle.guarantee.proofs.Demand3.{demand-3-on-bytes}
 
@@ -47,4 +47,4 @@ module _ (input : List ℕ) where
       ∙ ap (λ (i : ℕ). stateOf (contents (stateAt input i))) {x = stepCount input + 0} {y = stepCount input} (omega arith))
 
   pub demand-3-shown : inputRefusal input ≡ 0 → thresholdOf table ≤ honestCount table → ShownSafe input
-  demand-3-shown fit enough = record { shown = shown; safe = demand-3-on-bytes table (taken input fit .table) enough (callsIn input) }
+  demand-3-shown fit enough = record { shown = shown; safe = demand-3-on-bytes table (record { taken = taken input fit .table; honest = enough }) (callsIn input) }

@@ -9,7 +9,7 @@ use Rattle.view.specs.View.{stateOf}
 use Rattle.engine.specs.Engine.{boardTable}
 use Rattle.rehearsal.specs.Input.{tableIn, stepCount, callAt}
 use Rattle.rehearsal.specs.Rehearsal.{lastState}
-use Rattle.guarantee.specs.Calls.{afterCalls}
+use Rattle.guarantee.specs.Demand3.{afterCalls}
 
 abbrev pub callsIn : List ℕ → List (List ℕ)
 callsIn input = tab (stepCount input) (callAt input)

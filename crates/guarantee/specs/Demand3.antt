@@ -1,0 +1,24 @@
+-- Demand 3 of the bytes: its premise, and its claim about the very definitions that `step` promises.
+use Prim.Native.Nat.{ℕ, _≤_}
+use mathlib.Core.List.{List, []}
+use mathlib.Core.Path.{_≡_}
+use Rattle.header.specs.Header.{thresholdOf, honestCount}
+use Rattle.ballot.specs.Table.{refusal}
+use Rattle.rules.specs.Run.{World, runFrom}
+use Rattle.rules.specs.Demand3.{Safe}
+use Rattle.state.specs.Contents.{contents}
+use Rattle.view.specs.View.{stateOf}
+use Rattle.engine.specs.Engine.{boardTable, stepAnswer, stepBytes, freshState}
+
+-- the table is taken, and at least t of its peers are honest
+pub record HonestEnough (table : List ℕ) : Type 0 where
+  pub taken : refusal table ≡ 0
+  pub honest : thresholdOf table ≤ honestCount table
+
+-- after a list of step calls, on one table and one state buffer, from the fresh state: what the buffer holds, and what the ideal board was fed
+unfoldable pub afterCalls : List ℕ → List (List ℕ) → World
+afterCalls table calls = runFrom (λ s. stateOf (contents s)) (stepAnswer table) (stepBytes table) freshState [] calls
+
+-- whatever the calls, of any bytes, the board is safe after them
+abbrev pub AlwaysSafe : List ℕ → Type 0
+AlwaysSafe table = (calls : List (List ℕ)) → Safe (boardTable table) (afterCalls table) calls
