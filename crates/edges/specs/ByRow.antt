@@ -5,10 +5,10 @@ use mathlib.Core.List.{List, [], _∷_}
 use mathlib.Core.Path.{_≡_}
 use lib.Dec.{eqb, ltb}
 use Rattle.base.specs.Refusals.{Refusals, first}
-use Rattle.rules.specs.declared.Entry.the-variants.{Hash, Backing, Board}
+use Rattle.rules.specs.declared.Entry.the-variants.{Hash, Backing}
 use Rattle.rules.specs.declared.Step.{Step}
 use Rattle.rules.specs.Table.{Table, quorum, clashing}
-use Rattle.rules.specs.Bag.{isHash, isBacking, entryAt, periodOf, boardOf, isFull}
+use Rattle.rules.specs.Bag.{isHash, isBacking, entryAt, periodOf, boardOf, boardNamed, isFull}
 use Rattle.rules.specs.State.{State}
 use Rattle.rules.specs.Rules.{answer, boardBy, backers, noPeer, noPeriod, noItem, noBoard, noneOpen, notClosed, unposted}
 use Rattle.edges.specs.Fields.{Fields, fields}
@@ -29,11 +29,11 @@ module _ (T : Table) (s : State) (f : Fields) where
       let c = s .toBack j in
       let a = entryAt (s .bag) x in
       -- name: peer, other, period or item (not entry) out of range; board bit m or above
-      (6, op (2 ∷ 3 ∷ 4 ∷ 5 ∷ 7 ∷ 8 ∷ 9 ∷ 10 ∷ 11 ∷ 13 ∷ 14 ∷ 15 ∷ 16 ∷ 17 ∷ 18 ∷ []) && noPeer T j)
-      ∷ (6, op (4 ∷ 8 ∷ []) && noPeer T k)
-      ∷ (6, op (4 ∷ 6 ∷ 8 ∷ 9 ∷ 13 ∷ 14 ∷ 15 ∷ 16 ∷ []) && noPeriod T (f .period))
-      ∷ (6, op (1 ∷ 2 ∷ 3 ∷ 4 ∷ 5 ∷ 6 ∷ 13 ∷ 14 ∷ []) && noItem T x)
-      ∷ (6, op (15 ∷ 16 ∷ []) && noBoard T (f .board))
+      (6, op (2 ∷ 3 ∷ 4 ∷ 5 ∷ 7 ∷ 8 ∷ 9 ∷ 10 ∷ 11 ∷ 13 ∷ 14 ∷ 15 ∷ 16 ∷ 17 ∷ 18 ∷ []) && noPeer (T .n) j)
+      ∷ (6, op (4 ∷ 8 ∷ []) && noPeer (T .n) k)
+      ∷ (6, op (4 ∷ 6 ∷ 8 ∷ 9 ∷ 13 ∷ 14 ∷ 15 ∷ 16 ∷ []) && noPeriod (T .periods) (f .period))
+      ∷ (6, op (1 ∷ 2 ∷ 3 ∷ 4 ∷ 5 ∷ 6 ∷ 13 ∷ 14 ∷ []) && noItem (T .items) x)
+      ∷ (6, op (15 ∷ 16 ∷ []) && noBoard (T .items) (f .board))
       -- role: honest or dishonest peer needed
       ∷ (7, op (2 ∷ 3 ∷ 4 ∷ 5 ∷ 7 ∷ 8 ∷ 9 ∷ 10 ∷ 11 ∷ 17 ∷ 18 ∷ []) && not (T .honest j))
       ∷ (7, op (8 ∷ []) && not (T .honest k))
@@ -44,12 +44,12 @@ module _ (T : Table) (s : State) (f : Fields) where
       -- op 10 judges 10 before 9
       ∷ (10, op (10 ∷ []) && not (isHash a))
       -- period: 2, 3, 5, 7 none open; 4 beyond p; 8, 9, 10 not closed; 11 c = p
-      ∷ (9, op (2 ∷ 3 ∷ 5 ∷ 7 ∷ []) && noneOpen T p)
+      ∷ (9, op (2 ∷ 3 ∷ 5 ∷ 7 ∷ []) && noneOpen (T .periods) p)
       ∷ (9, op (4 ∷ []) && ltb p (f .period))
       ∷ (9, op (8 ∷ 9 ∷ []) && notClosed p (f .period))
       ∷ (9, op (8 ∷ []) && notClosed (s .current k) (f .period))
       ∷ (9, op (10 ∷ []) && notClosed p (periodOf a))
-      ∷ (9, op (11 ∷ []) && not (ltb c p))
+      ∷ (9, op (11 ∷ []) && notClosed p c)
       -- unknown: 2, 13 to 16 an item not posted; 3 not held in p; 4 signature absent; 12 entry absent or of another kind
       ∷ (10, op (2 ∷ 13 ∷ 14 ∷ []) && not (s .posted x))
       ∷ (10, op (15 ∷ 16 ∷ []) && unposted T s (f .board))
@@ -66,7 +66,7 @@ module _ (T : Table) (s : State) (f : Fields) where
       -- full: a new entry, and 256 are there
       ∷ (13, op (9 ∷ []) && isFull (Hash j (f .period) (boardBy T s j (f .period))) (s .bag))
       ∷ (13, op (11 ∷ []) && isFull (Backing j c (boardBy T s j c)) (s .bag))
-      ∷ (13, op (12 ∷ []) && isFull (Board (periodOf a) (boardOf a)) (s .bag))
+      ∷ (13, op (12 ∷ []) && isFull (boardNamed (s .bag) x) (s .bag))
       ∷ (13, op (15 ∷ []) && isFull (Hash j (f .period) (f .board)) (s .bag))
       ∷ (13, op (16 ∷ []) && isFull (Backing j (f .period) (f .board)) (s .bag))
       ∷ []

@@ -5,11 +5,11 @@ use mathlib.Core.Path.{_≡_}
 use lib.ListN.{length}
 use Rattle.base.specs.Bits.{bit}
 use Rattle.rules.specs.declared.Entry.{Entry}
-use Rattle.rules.specs.declared.Entry.the-variants.{Hash, Backing, Board}
+use Rattle.rules.specs.declared.Entry.the-variants.{Hash, Backing}
 use Rattle.rules.specs.declared.Step.{Step}
 use Rattle.rules.specs.declared.Step.the-variants.{Hand, Sign, Take, Share, Receipt, Close, Fetch, SendHash, Hear, Back, Publish, FalseShare, FalseHash, FalseBacking}
 use Rattle.rules.specs.Table.{Table, weigh}
-use Rattle.rules.specs.Bag.{isIn, isHash, isBacking, entryAt, periodOf, boardOf}
+use Rattle.rules.specs.Bag.{isIn, isHash, isBacking, entryAt, periodOf, boardOf, boardNamed}
 use Rattle.rules.specs.State.{State, with-signed, with-shared, with-db, with-heard}
 use Rattle.rules.specs.Rules.{answer, next, boardBy, backers}
 use Rattle.rules.specs.Repeat.{There}
@@ -37,10 +37,7 @@ ownBoard T s j = boardBy T s j (s .toBack j)
 abbrev pub heardOwn : Table → State → ℕ → ℕ → Bool
 heardOwn T s j k = s .heard j k (s .toBack j) (ownBoard T s j)
 
--- the period and board of entry e as a board, and those that back it
-abbrev pub sheetAt : State → ℕ → Entry
-sheetAt s e = Board (periodOf (entryAt (s .bag) e)) (boardOf (entryAt (s .bag) e))
-
+-- those that back the period and board of entry e
 abbrev pub backersAt : State → ℕ → ℕ → Bool
 backersAt s e = backers (s .bag) (periodOf (entryAt (s .bag) e)) (boardOf (entryAt (s .bag) e))
 
@@ -59,7 +56,7 @@ AllPosted T s B = (x : ℕ) → x < T .items → bit B x ≡ true → s .posted 
 pub data Enters (T : Table) (s : State) : Step → Entry → Type 0 where
   own-hash : (j p : ℕ) → Able T s j → p < T .periods → p < s .current j → Enters T s (SendHash j p) (Hash j p (boardBy T s j p))
   own-backing : (j : ℕ) → Able T s j → s .toBack j < s .current j → T .t ≤ weigh T (heardOwn T s j) → Enters T s (Back j) (Backing j (s .toBack j) (ownBoard T s j))
-  board : (e : ℕ) → isBacking (entryAt (s .bag) e) ≡ true → T .t ≤ weigh T (backersAt s e) → Enters T s (Publish e) (sheetAt s e)
+  board : (e : ℕ) → isBacking (entryAt (s .bag) e) ≡ true → T .t ≤ weigh T (backersAt s e) → Enters T s (Publish e) (boardNamed (s .bag) e)
   false-hash : (j p B : ℕ) → Peer T j → Sheet T p B → T .honest j ≡ false → AllPosted T s B → Enters T s (FalseHash j p B) (Hash j p B)
   false-backing : (j p B : ℕ) → Peer T j → Sheet T p B → T .honest j ≡ false → AllPosted T s B → Enters T s (FalseBacking j p B) (Backing j p B)
 

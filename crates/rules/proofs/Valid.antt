@@ -16,7 +16,7 @@ use Rattle.rules.specs.declared.Entry.the-variants.{Hash, Backing, Board
 use Rattle.rules.specs.declared.Step.{Step}
 use Rattle.rules.specs.declared.Step.the-variants.{Post, Hand, Sign, Take, Share, Receipt, Close, Fetch, SendHash, Hear, Back, Publish, FalseSignature, FalseShare, FalseHash, FalseBacking, Down, Up}
 use Rattle.rules.specs.Table.{Table}
-use Rattle.rules.specs.Bag.{sameEntry, isIn, entryAt, periodOf, boardOf, enter, isFull}
+use Rattle.rules.specs.Bag.{sameEntry, isIn, entryAt, periodOf, boardOf, boardNamed, enter, isFull}
 use Rattle.rules.specs.State.{State, fresh}
 use Rattle.rules.specs.Rules.{rule, boardFrom, boardBy}
 use Rattle.rules.specs.Run.{run}
@@ -140,7 +140,7 @@ module _ (T : Table) where
       sets = G .sets;
       counters = G .counters;
       down = G .down;
-      bag = bag-enter (s .bag) (G .bag) (Board (periodOf (entryAt (s .bag) e)) (boardOf (entryAt (s .bag) e))) (its-sheet (entryAt (s .bag) e) (G .bag .entries (entryAt (s .bag) e) (backing-in (s .bag) e (search judged)))) (search);
+      bag = bag-enter (s .bag) (G .bag) (boardNamed (s .bag) e) (its-sheet (entryAt (s .bag) e) (G .bag .entries (entryAt (s .bag) e) (backing-in (s .bag) e (search judged)))) (search);
       heard = heard-enter (s .heard) (s .bag) _ (G .heard);
     }
     keeps-valid (FalseSignature j p x) c = record { sets = new-signs (G .sets) (grow3 j p x (s .signed) (search (judged, is-peer)) (G .sets .signs)); counters = G .counters; down = G .down; bag = G .bag; heard = G .heard }
