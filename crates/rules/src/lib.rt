@@ -1,13 +1,18 @@
 // The vocabulary of the rules: entries of the bag, steps, and sets of peers.
-// Peers count from 1; periods, items and entries from 0. A board is a number whose bit i is item i.
+// Peers count from 1; periods, items and entries from 0. A period is open at a peer until the peer closes it.
+// A peer's database has the signers that it knows on each item, by period. An item that has t signers there gets the peer's receipt share while the period is open, and is on the peer's board of it once it is closed; t receipt shares make a receipt.
 // It uses base. Of bytes it knows only the 13 of a step: no table, no state.
 ghost use mathlib.Core.Path.{_≡_};
 ghost use Rattle.rules.specs.Form.{allZero, formed, select, laterOps, ops, read};
 
-// An entry of the bag: a hash or a backing (signer, period, board), or a board (period, board).
+// An entry of the bag: what peers send about the boards of closed periods, and the boards that are published.
+// A board is a set of items, the number whose bit i is item i. Its hash is stood for by the board itself: so a hash carries the board's 64 bits.
 pub enum Entry {
+    // a peer's word on what its board is: signer, period, board
     Hash(u8, u8, u64),
+    // its word that t hashes have its board: signer, period, board
     Backing(u8, u8, u64),
+    // a board that t signers back: period, board
     Board(u8, u64),
 }
 
@@ -28,7 +33,7 @@ pub enum Step {
     Close(u8),
     // peer, other, period
     Fetch(u8, u8, u8),
-    // peer, period
+    // peer, period: document 01's hash
     SendHash(u8, u8),
     // peer, entry
     Hear(u8, u8),
@@ -59,6 +64,7 @@ pub enum Call {
     Malformed,
 }
 
+// Whether fields that an op does not name are 0.
 fn all_zero(a: u8, b: u8, c: u8, board: u64) -> bool
     ensures { λ r. ⌜ r ≡ allZero a b c board ⌝ }
 {
@@ -74,6 +80,7 @@ fn all_zero(a: u8, b: u8, c: u8, board: u64) -> bool
     board == 0
 }
 
+// The step, if its unused fields are 0.
 fn formed(ok: bool, step: Step) -> Call
     ensures { λ r. ⌜ r ≡ formed ok step ⌝ }
 {
@@ -117,7 +124,7 @@ fn read_later(op: u8, j: u8, k: u8, p: u8, x: u8, board: u64) -> Call
     Call::Malformed
 }
 
-// The step of any op.
+// The step of any op, of the same fields.
 fn read_op(op: u8, j: u8, k: u8, p: u8, x: u8, board: u64) -> Call
     ensures { λ r. ⌜ r ≡ select op (ops j k p x board) ⌝ }
 {
