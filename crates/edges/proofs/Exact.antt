@@ -23,7 +23,8 @@ use Rattle.rules.specs.Rules.{rule, answer, next, full}
 use Rattle.rules.specs.Valid.{Peer}
 use Rattle.edges.specs.Exact.{AllPosted, NeedsUp, hand, sign, take, share, close, fetch, fetch-other, hash, hear, back, Counts, signers, sharers, hearers, backed, Enters, own-hash, own-backing, board, false-hash, false-backing, ExactEdges}
 use Rattle.edges.proofs.Stored.{stored, closes, backs}
-use Rattle.edges.proofs.Keys.{shares-unseen, shares-kept}
+use Rattle.edges.proofs.Keys.{shares-unseen}
+use Rattle.edges.proofs.Left.{left}
 use Rattle.edges.proofs.Tests.{row, Without, never}
 
 -- past the end of the bag there is no hash
@@ -146,6 +147,8 @@ module _ (T : Table) (s : State) where
     stored = stored T s;
     closes = closes T s;
     backs = backs T s;
+    current-kept = λ j st. left T s st .current j;
+    toBack-kept = λ j st. left T s st .toBack j;
     down = down;
     all-up = λ st up e. never 8 (rule T s st .refusals) (λ z. omega arith) (none-down up st) e;
     take-beyond = λ j k p x a b c d. search (row, lt-ltb) depth 9;
@@ -163,5 +166,5 @@ module _ (T : Table) (s : State) where
     take-unsigned = λ j k p x a b c d e. search (row, le-ltb) depth 10;
     shares-unseen = λ st shared n. shares-unseen T s shared st n;
     signatures-unseen = λ p x signed db. refl;
-    shares-kept = shares-kept T s;
+    shares-kept = λ st. left T s st .shared;
   }

@@ -1,4 +1,4 @@
--- The two keys: no rule but receipt's has a share in it, and only those of share and false share make one.
+-- The two keys: no rule but receipt's has a share in it.
 use Prim.Native.Nat.{ℕ}
 use mathlib.Core.Bool.{Bool, true, false, cond}
 use mathlib.Core.Path.{_≡_, refl, ap}
@@ -15,11 +15,6 @@ use Rattle.edges.specs.Exact.{sharesAside}
 both : (b : Bool) (s t u v : State) → sharesAside s ≡ sharesAside u → sharesAside t ≡ sharesAside v → sharesAside (cond b s t) ≡ sharesAside (cond b u v)
 both true s t u v e f = e
 both false s t u v e f = f
-
--- a step that leaves the shares, taken or refused
-kept : (b : Bool) (s t : State) → t .shared ≡ s .shared → cond b t s .shared ≡ s .shared
-kept true s t e = e
-kept false s t e = refl
 
 module _ (T : Table) (s : State) (shared : ℕ → ℕ → ℕ → Bool) where
   abbrev u : State
@@ -51,29 +46,3 @@ module _ (T : Table) (s : State) (shared : ℕ → ℕ → ℕ → Bool) where
   shares-unseen st n =
       let r = same-rule st n in
       (ap first (r .0), (rw (r .0) (both (eqb (first (rule T s st .refusals)) 0) (rule T u st .effect) u (rule T s st .effect) s (r .1) refl)))
-
-module _ (T : Table) (s : State) where
-  same-shares : (st : Step) → ((j x : ℕ) → st ≡ Share j x → ⊥) → ((j p x : ℕ) → st ≡ FalseShare j p x → ⊥) → rule T s st .effect .shared ≡ s .shared
-  unfolding rule
-  same-shares (Post x) n m = refl
-  same-shares (Hand j x) n m = refl
-  same-shares (Sign j x) n m = refl
-  same-shares (Take j k p x) n m = refl
-  same-shares (Share j x) n m = absurd (n j x refl)
-  same-shares (Receipt p x) n m = refl
-  same-shares (Close j) n m = refl
-  same-shares (Fetch j k p) n m = refl
-  same-shares (SendHash j p) n m = refl
-  same-shares (Hear j e) n m = refl
-  same-shares (Back j) n m = refl
-  same-shares (Publish e) n m = refl
-  same-shares (FalseSignature j p x) n m = refl
-  same-shares (FalseShare j p x) n m = absurd (m j p x refl)
-  same-shares (FalseHash j p B) n m = refl
-  same-shares (FalseBacking j p B) n m = refl
-  same-shares (Down j) n m = refl
-  same-shares (Up j) n m = refl
-
-  pub shares-kept : (st : Step) → ((j x : ℕ) → st ≡ Share j x → ⊥) → ((j p x : ℕ) → st ≡ FalseShare j p x → ⊥) → next T s st .shared ≡ s .shared
-  unfolding next
-  shares-kept st n m = kept (eqb (answer T s st) 0) s (rule T s st .effect) (same-shares st n m)

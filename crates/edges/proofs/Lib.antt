@@ -6,6 +6,7 @@ pub mod Hand
 pub mod Steps
 pub mod Stored
 pub mod Keys
+pub mod Left
 pub mod Exact
 pub mod Fields
 pub mod ByRow

@@ -8,6 +8,7 @@ use lib.Dec.{leb}
 use borrow.Author.Tests.{le-leb, lt-leb}
 use Rattle.base.specs.Weight.{weight, ones}
 use Rattle.base.proofs.Truth.{eqb-self, eqb-sym}
+use Rattle.ballot.specs.Header.{leastTable}
 use Rattle.rules.specs.Demand3.{Premise}
 use Rattle.rules.proofs.Demand3.{counted}
 use Rattle.edges.specs.Cases.{table}
@@ -45,4 +46,5 @@ barely-meets n l = record {
     honest = up-to n (leastThreshold n) (omega arith)
 
 pub premise-edges : PremiseEdges
+unfolding leastTable
 premise-edges = record { met = barely-meets; least = λ n t. omega arith; constants = refl }

@@ -71,6 +71,9 @@ pub record ExactEdges (T : Table) (s : State) : Type 0 where
   pub stored : (st : Step) → ((j : ℕ) → st ≡ Close j → ⊥) → ((j : ℕ) → st ≡ Back j → ⊥) → answer T s st ≡ 0 → There T (next T s st) st
   pub closes : (j : ℕ) → answer T s (Close j) ≡ 0 → next T s (Close j) .current j ≡ s .current j + 1
   pub backs : (j : ℕ) → answer T s (Back j) ≡ 0 → let u = next T s (Back j) in (u .toBack j ≡ s .toBack j + 1) × (isIn (Backing j (s .toBack j) (ownBoard T s j)) (u .bag) ≡ true)
+  -- the two counters of a peer move only through close and back
+  pub current-kept : (j : ℕ) (st : Step) → (st ≡ Close j → ⊥) → next T s st .current j ≡ s .current j
+  pub toBack-kept : (j : ℕ) (st : Step) → (st ≡ Back j → ⊥) → next T s st .toBack j ≡ s .toBack j
   -- 8: where a peer that the step needs up is down, whatever stands further down document 01's table; never where all are up
   pub down : (j : ℕ) (st : Step) → NeedsUp T j st → Peer T j → T .honest j ≡ true → s .down j ≡ true → answer T s st ≡ 8
   pub all-up : (st : Step) → ((j : ℕ) → s .down j ≡ false) → answer T s st ≡ 8 → ⊥

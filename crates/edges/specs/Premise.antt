@@ -4,6 +4,7 @@ use mathlib.Core.Bool.{true}
 use mathlib.Core.List.{List, [], _∷_, _++_}
 use mathlib.Core.Path.{_≡_}
 use mathlib.Core.Logic.{_↔_}
+use Rattle.ballot.specs.Header.{leastTable}
 use Rattle.rules.specs.Table.{Table, weigh}
 use Rattle.rules.specs.Demand3.{Premise}
 use Rattle.edges.specs.Cases.{table}
@@ -33,5 +34,5 @@ pub record PremiseEdges : Type 0 where
   pub met : (n : ℕ) → 1 ≤ n → Barely n
   -- a threshold meets it from the least one on, and no lower one does
   pub least : (n t : ℕ) → 2 * n < 3 * t ↔ leastThreshold n ≤ t
-  -- document 01's constant table
-  pub constants : leastThresholds 16 ≡ 1 ∷ 2 ∷ 3 ∷ 3 ∷ 4 ∷ 5 ∷ 5 ∷ 6 ∷ 7 ∷ 7 ∷ 8 ∷ 9 ∷ 9 ∷ 10 ∷ 11 ∷ 11 ∷ []
+  -- document 01's constant table, which the engine reads
+  pub constants : leastThresholds 16 ≡ leastTable
