@@ -1,44 +1,22 @@
 -- The second hand of an item in a period: once an item is held, nothing that clashes with it is handed.
 use Prim.Native.Nat.{ℕ, _<_}
-use mathlib.Core.Bool.{Bool, true, false, _&&_, not}
+use mathlib.Core.Bool.{Bool, true, false, not}
 use mathlib.Core.List.{List, [], _∷_}
 use mathlib.Core.Path.{_≡_, refl, sym, _∙_, subst}
 use mathlib.Core.Logic.{_⊎_, inl, inr}
 use lib.Dec.{eqb, ltb}
 use borrow.Author.Tests.{eqb-true}
-use Rattle.base.specs.Below.{any}
-use Rattle.base.proofs.Truth.{either, split, is-false, and-i, and-l, and-r}
-use Rattle.base.proofs.Below.{any-at, any-found}
+use Rattle.base.proofs.Truth.{either}
 use Rattle.base.proofs.Sets.{old1, old3, new3, grow3}
 use Rattle.rules.specs.declared.Step.{Step}
 use Rattle.rules.specs.declared.Step.the-variants.{Post, Hand, Sign, Take, Share, Receipt, Close, Fetch, SendHash, Hear, Back, Publish, FalseSignature, FalseShare, FalseHash, FalseBacking, Down, Up}
-use Rattle.rules.specs.Table.{Table, clashing}
+use Rattle.rules.specs.Table.{Table}
 use Rattle.rules.specs.State.{State}
 use Rattle.rules.specs.Rules.{rule, answer, next}
 use Rattle.rules.proofs.Answered.{Clear, answered, judged}
+use Rattle.rules.proofs.Clashing.{Apart, apart-test, test-apart}
 use Rattle.rules.proofs.Repeat.{repeated}
 use Rattle.edges.specs.Steps.{after}
-
-module _ (T : Table) (rows : ℕ → ℕ → Bool) (x : ℕ) where
-  abbrev clashes : ℕ → ℕ → Bool
-  clashes p y = rows p y && T .clash x y
-
-  -- no item in the rows clashes with x
-  abbrev pub Apart : Type 0
-  Apart = (p y : ℕ) → p < T .periods → y < T .items → rows p y ≡ true → T .clash x y ≡ false
-
-  apart-test : Apart → clashing T rows x ≡ false
-  unfolding clashing
-  apart-test h = is-false _ (λ e. none (any-found (T .periods) (λ p. any (T .items) (clashes p)) e))
-    where
-      none : (p : ℕ) × (p < T .periods) × (any (T .items) (clashes p) ≡ true) → ⊥
-      none (p, l, e) =
-          let (y, m, c) = any-found (T .items) (clashes p) e in
-          split (and-r (rows p y) _ c) (h p y l m (and-l _ (T .clash x y) c))
-
-  test-apart : clashing T rows x ≡ false → Apart
-  unfolding clashing
-  test-apart e p y l m r = is-false _ (λ c. split (any-at (λ p. any (T .items) (clashes p)) p (T .periods) l (any-at (clashes p) y (T .items) m (and-i _ _ r c))) e)
 
 -- x is posted, j holds it in p, and nothing that j holds clashes with it
 pub record Settled (T : Table) (j p x : ℕ) (posted : ℕ → Bool) (held : ℕ → ℕ → ℕ → Bool) : Type 0 where

@@ -1,5 +1,5 @@
 -- The ideal board beside the engine: what each has of the other, and that every move of the ideal board is allowed.
-use Prim.Native.Nat.{ℕ, _+_, _≤_, _<_}
+use Prim.Native.Nat.{ℕ, _+_, _≤_}
 use native.Mathlib.Omega.{arith}
 use mathlib.Core.Bool.{Bool, true, false, cond, _&&_, _||_, not}
 use mathlib.Core.List.{List, [], _∷_, _++_}
@@ -7,20 +7,20 @@ use mathlib.Core.Path.{_≡_, refl, sym, ap, _∙_, fun-ext, subst}
 use mathlib.Core.Logic.{_⊎_, inl, inr}
 use lib.Dec.{eqb, leb}
 use borrow.Author.Tests.{eqb-true, leb-true, le-leb}
-use Rattle.base.specs.Below.{any, every}
 use Rattle.base.specs.Bits.{bit}
 use Rattle.base.specs.Sets.{add1, add2, add3, setAt}
 use Rattle.base.proofs.Truth.{split, false-true, either, and-i, and-l, and-r, iff, not-i, imp-i, eqb-self}
-use Rattle.base.proofs.Below.{any-found, every-of}
+use Rattle.base.proofs.Below.{every-of}
 use Rattle.base.proofs.Sets.{grow2, grow3, old2, old3, new2, new3}
 use Rattle.rules.specs.declared.Entry.{Entry}
 use Rattle.rules.specs.declared.Entry.the-variants.{Board}
 use Rattle.rules.specs.declared.Step.the-variants.{Post, Sign, Receipt, Close, Publish}
-use Rattle.rules.specs.Table.{Table, weigh, needed, clashing}
+use Rattle.rules.specs.Table.{Table, weigh, needed}
 use Rattle.rules.specs.Bag.{enter, boardsIn}
 use Rattle.rules.specs.Ideal.{Ideal, mayReceive, mayReceipt, mayPublish, nowEnough, move, onBoard, hasBoard, isThere}
 use Rattle.rules.specs.Demand3.{Premise}
 use Rattle.rules.proofs.Bag.{stands, boards-board, there-stands, some-board}
+use Rattle.rules.proofs.Clashing.{apart-test}
 use Rattle.rules.proofs.Quorum.{weigh-mono}
 use Rattle.rules.proofs.Invariant.{Holdings, Backings, Quorums}
 use Rattle.rules.proofs.Consequences.{honestSigners, is-signer, signer-honest, signer-signed, Enough, enough-apart, one-backed, backed-enough, backed-has}
@@ -135,20 +135,9 @@ module _ (T : Table) where
           old = grow3 j p x signed (λ f. split (and-i _ _ (eqb-self p) (eqb-self x)) f) (λ k q y s f. s)
 
       may : enough after p x ≡ true → mayReceive T i x ≡ true
-      unfolding mayReceive clashing
-      may e = and-i _ _ (ap (λ (f : ℕ → Bool). f x) (L .posts) ∙ I .posts j p x h) (not-i _ no-clash)
-        where
-          no-clash : any (T .periods) (λ q. any (T .items) (λ y. i .received q y && T .clash x y)) ≡ true → ⊥
-          no-clash u = clash-at (v .0) (w .0) (w .2)
-            where
-              v : (q : ℕ) × (q < T .periods) × (any (T .items) (λ y. i .received q y && T .clash x y) ≡ true)
-              v = any-found (T .periods) (λ q. any (T .items) (λ y. i .received q y && T .clash x y)) u
-
-              w : (y : ℕ) × (y < T .items) × (i .received (v .0) y && T .clash x y ≡ true)
-              w = any-found (T .items) (λ y. i .received (v .0) y && T .clash x y) (v .2)
-
-              clash-at : (q y : ℕ) → i .received q y && T .clash x y ≡ true → ⊥
-              clash-at q y c = split (and-r (i .received q y) _ c) (enough-apart T Q I p x q y (leb-true _ _ e) (stays q y (received-enough q y (and-l _ (T .clash x y) c))))
+      unfolding mayReceive
+      may e = rw (apart-test T (i .received) x (λ q y l m r. enough-apart T Q I p x q y (leb-true _ _ e) (stays q y (received-enough q y r))))
+          (and-i _ _ (ap (λ (f : ℕ → Bool). f x) (L .posts) ∙ I .posts j p x h) refl)
 
       now-may : nowEnough T i j p x ≡ true → mayReceive T i x ≡ true
       now-may e = may (and-r (not (i .received p x)) _ (sym now-enough ∙ e))
@@ -178,19 +167,18 @@ module _ (T : Table) where
               rw (here, this) (was (i .received p x) (enough after p x) v (rw (here, this) at e))
           back (inr u) e = is-received q y (elsewhere q y u (leb-true _ _ e))
 
-    pub beside-sign : Premise T → (held : ℕ → ℕ → ℕ → Bool) (j x a b : ℕ) → Holdings T posted held (add3 j (i .opens j) x signed) → T .honest j ≡ true → held j (i .opens j) x ≡ true
-        → Beside posted current (add3 j (i .opens j) x signed) receipted published (move T i (Sign j x) a b)
+    pub beside-sign : Premise T → (held : ℕ → ℕ → ℕ → Bool) (j p x a b : ℕ) → i .opens j ≡ p → Holdings T posted held (add3 j p x signed) → T .honest j ≡ true → held j p x ≡ true
+        → Beside posted current (add3 j p x signed) receipted published (move T i (Sign j x) a b)
     unfolding move
-    beside-sign Q held j x a b I g h =
-        let p = i .opens j in record {
-          posts = L .posts;
-          opens = L .opens;
-          signers = signers-after Q held j p x I g h;
-          received = received-after Q held j p x I g h (nowEnough T i j p x) (mayReceive T i x) (now-enough Q held j p x I g h) (now-may Q held j p x I g h);
-          receipts = L .receipts;
-          boards = L .boards;
-          allowed = and-i _ _ (L .allowed) (imp-i _ _ (now-may Q held j p x I g h));
-        }
+    beside-sign Q held j p x a b o I g h = rw o (record {
+      posts = L .posts;
+      opens = L .opens;
+      signers = signers-after Q held j p x I g h;
+      received = received-after Q held j p x I g h (nowEnough T i j p x) (mayReceive T i x) (now-enough Q held j p x I g h) (now-may Q held j p x I g h);
+      receipts = L .receipts;
+      boards = L .boards;
+      allowed = and-i _ _ (L .allowed) (imp-i _ _ (now-may Q held j p x I g h));
+    })
 
   module _ {posted : ℕ → Bool} {current : ℕ → ℕ} {signed : ℕ → ℕ → ℕ → Bool} {receipted : ℕ → ℕ → Bool} (bag : List Entry) {i : Ideal}
       (L : Beside posted current signed receipted (boardsIn bag) i) where

@@ -1,6 +1,7 @@
 pub mod Form
 pub mod Answered
 pub mod Rows
+pub mod Clashing
 pub mod Bag
 pub mod Quorum
 pub mod Invariant

@@ -1,9 +1,9 @@
 -- The three facts on quorums that carry everything, under 3t > 2n and t honest peers.
-use Prim.Native.Nat.{ℕ, _+_, _-_, _≤_, _<_}
+use Prim.Native.Nat.{ℕ, _+_, _≤_, _<_}
 use native.Mathlib.Omega.{arith}
 use mathlib.Core.Bool.{Bool, true, _&&_}
 use mathlib.Core.Path.{_≡_, refl}
-use Rattle.base.specs.Weight.{weight, all}
+use Rattle.base.specs.Weight.{all}
 use Rattle.base.proofs.Truth.{and-l, and-r}
 use Rattle.base.proofs.Weight.{weight-mono, weight-meet, weight-member}
 use Rattle.rules.specs.Table.{Table, weigh, needed}

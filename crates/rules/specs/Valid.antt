@@ -27,6 +27,10 @@ module _ (T : Table) where
   abbrev pub Spot : ℕ → ℕ → ℕ → Type 0
   Spot k p x = Peer k × Cell p x
 
+  -- a set of such
+  abbrev pub Spots : (ℕ → ℕ → ℕ → Bool) → Type 0
+  Spots S = (k p x : ℕ) → S k p x ≡ true → Spot k p x
+
   -- a period of the table, and a board of its items
   abbrev pub Sheet : ℕ → ℕ → Type 0
   Sheet p B = (p < T .periods) × (B < 2 ^ T .items)
@@ -40,10 +44,10 @@ module _ (T : Table) where
   -- the sets are within the table's ranges
   pub record SetsIn (posted : ℕ → Bool) (signed shared : ℕ → ℕ → ℕ → Bool) (receipted : ℕ → ℕ → Bool) (held : ℕ → ℕ → ℕ → Bool) (db : ℕ → ℕ → ℕ → ℕ → Bool) : Type 0 where
     pub posts : (x : ℕ) → posted x ≡ true → x < T .items
-    pub signs : (k p x : ℕ) → signed k p x ≡ true → Spot k p x
-    pub shares : (k p x : ℕ) → shared k p x ≡ true → Spot k p x
+    pub signs : Spots signed
+    pub shares : Spots shared
     pub receipts : (p x : ℕ) → receipted p x ≡ true → Cell p x
-    pub holds : (j p x : ℕ) → held j p x ≡ true → Spot j p x
+    pub holds : Spots held
     pub knows : (j p x k : ℕ) → db j p x k ≡ true → Spot j p x × Peer k
 
   -- p is at most P and c at most p; beyond the table's peers both are 0

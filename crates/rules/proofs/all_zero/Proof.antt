@@ -1,6 +1,5 @@
 use native.Mathlib.Omega.{arith}
 use Rattle.rules.proofs.Form.{some-not, last-one}
-use borrow.Author.Needs.{needs}
 use Rattle.rules.proofs.all_zero.Statement.{statement}
 use Rattle.rules.proofs.all_zero.Tie as tie
 

@@ -1,5 +1,4 @@
 use Rattle.rules.proofs.Form.{is-formed, not-formed}
-use borrow.Author.Needs.{needs}
 use Rattle.rules.proofs.formed.Statement.{statement}
 use Rattle.rules.proofs.formed.Tie as tie
 
