@@ -17,6 +17,7 @@ use Rattle.rules.specs.Bag.{enter, boardsIn}
 use Rattle.rules.specs.State.{State, with-bag, with-shared, with-toBack}
 use Rattle.rules.specs.Rules.{rule, addRows, boardFrom, boardBy, backers}
 use Rattle.rules.specs.Ideal.{Ideal, move, onBoard}
+use Rattle.rules.specs.Deed.{deed, deedOf}
 use Rattle.rules.specs.Run.{backingNamed}
 use Rattle.rules.specs.Demand3.{Premise}
 use Rattle.rules.proofs.Answered.{Clear, judged}
@@ -81,7 +82,7 @@ module _ (T : Table) (Q : Premise T) where
 
     -- each step, by the parts that it changes
     pub keep : (st : Step) → Clear T s st → Inv (rule T s st .effect) (moved T s i st)
-    unfolding rule move backingNamed
+    unfolding rule move backingNamed deed deedOf
     keep (Post x) c = search (holdings-post T (I .holdings) x, beside-post T (I .beside) x 0 0)
     keep (Hand j x) c = search (holdings-hand T (I .holdings) (Q .symmetric) (Q .never-itself) j (s .current j) x (search judged) (search judged) (search judged)
         (λ q y h. let r = I .holdings .range j q y h in test-apart T (s .held j) x (search) q y (r .0) (r .1) h))
