@@ -11,7 +11,7 @@ use lib.ListN.{length}
 use borrow.Author.Tests.{eqb-true, eq-eqb}
 use Rattle.base.specs.Bits.{bit}
 use Rattle.base.specs.Sets.{add2, add3}
-use Rattle.base.proofs.Truth.{false-true, either, and-i, and-l, and-r, or-l, or-r, or-cases, eqb-self}
+use Rattle.base.proofs.Truth.{false-true, either, and-i, and-l, and-r, or-l, or-r, or-cases, or-swap, eqb-self}
 use Rattle.rules.specs.declared.Entry.{Entry}
 use Rattle.rules.specs.declared.Entry.the-variants.{Hash, Backing, Board}
 use Rattle.rules.specs.Bag.{sameEntry, isIn, enter, boardsIn, entryAt, isHash, isBacking, signerOf, periodOf, boardOf}
@@ -51,12 +51,7 @@ same-self (Board p B) = and-i _ _ (eqb-self p) (eqb-self B)
 pub in-append : (e a : Entry) (l : List Entry) → isIn e (l ++ (a ∷ [])) ≡ (sameEntry e a || isIn e l)
 unfolding isIn
 in-append e a [] = refl
-in-append e a (b ∷ l) = rw (in-append e a l) (swap (sameEntry e b) (sameEntry e a) (isIn e l))
-  where
-    swap : (x y z : Bool) → (x || (y || z)) ≡ (y || (x || z))
-    swap true true z = refl
-    swap true false z = refl
-    swap false y z = refl
+in-append e a (b ∷ l) = rw (in-append e a l) (or-swap (sameEntry e b) (sameEntry e a) (isIn e l))
 
 pub enter-cases : (P : List Entry → Type 0) (a : Entry) (l : List Entry) → (isIn a l ≡ true → P l) → (isIn a l ≡ false → P (l ++ (a ∷ []))) → P (enter a l)
 unfolding enter

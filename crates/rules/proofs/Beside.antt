@@ -72,34 +72,20 @@ module _ (T : Table) where
 
     pub beside-post : (x a b : ℕ) → Beside (add1 x posted) current signed receipted published (move T i (Post x) a b)
     unfolding move
-    beside-post x a b = record { posts = ap (λ (S : ℕ → Bool). add1 x S) (L .posts); opens = L .opens; signers = L .signers; received = L .received; receipts = L .receipts; boards = L .boards; allowed = L .allowed }
+    beside-post x a b = search (ap (add1 x) (L .posts))
 
     pub beside-close : (j a b : ℕ) → Beside posted (setAt j (current j + 1) current) signed receipted published (move T i (Close j) a b)
     unfolding move
-    beside-close j a b = record { posts = L .posts; opens = ap (λ (f : ℕ → ℕ). setAt j (f j + 1) f) (L .opens); signers = L .signers; received = L .received; receipts = L .receipts; boards = L .boards; allowed = L .allowed }
+    beside-close j a b = search (ap (λ (f : ℕ → ℕ). setAt j (f j + 1) f) (L .opens))
 
     pub beside-false : (j p x : ℕ) → T .honest j ≡ false → Beside posted current (add3 j p x signed) receipted published i
-    beside-false j p x f = record {
-      posts = L .posts;
-      opens = L .opens;
-      signers = L .signers ∙ no-joins signed j p x f;
-      received = λ q y. L .received q y ∙ ap (λ (G : ℕ → ℕ → ℕ → Bool). leb (needed T) (weigh T (λ k. G k q y))) (no-joins signed j p x f);
-      receipts = L .receipts;
-      boards = L .boards;
-      allowed = L .allowed;
-    }
+    beside-false j p x f =
+        let received : (q y : ℕ) → i .received q y ≡ enough (add3 j p x signed) q y = λ q y. L .received q y ∙ ap (λ (G : ℕ → ℕ → ℕ → Bool). leb (needed T) (weigh T (λ k. G k q y))) (no-joins signed j p x f) in
+        search (L .signers ∙ no-joins signed j p x f)
 
     pub beside-receipt : (p x a b : ℕ) → Enough T signed p x → onBoard (i .boards) p x ≡ true → Beside posted current signed (add2 p x receipted) published (move T i (Receipt p x) a b)
     unfolding move mayReceipt
-    beside-receipt p x a b e o = record {
-      posts = L .posts;
-      opens = L .opens;
-      signers = L .signers;
-      received = L .received;
-      receipts = rw (is-received p x e, o) (ap (λ (S : ℕ → ℕ → Bool). add2 p x S) (L .receipts));
-      boards = L .boards;
-      allowed = and-i _ _ (L .allowed) (and-i _ _ (is-received p x e) o);
-    }
+    beside-receipt p x a b e o = rw (is-received p x e, o) (search (ap (add2 p x) (L .receipts), and-i _ _ (L .allowed) refl))
 
     -- signing: j, honest, signs x, which it holds in p
     module _ (Q : Premise T) (held : ℕ → ℕ → ℕ → Bool) (j p x : ℕ) (I : Holdings T posted held (add3 j p x signed)) (g : T .honest j ≡ true) (h : held j p x ≡ true) where
@@ -170,15 +156,9 @@ module _ (T : Table) where
     pub beside-sign : Premise T → (held : ℕ → ℕ → ℕ → Bool) (j p x a b : ℕ) → i .opens j ≡ p → Holdings T posted held (add3 j p x signed) → T .honest j ≡ true → held j p x ≡ true
         → Beside posted current (add3 j p x signed) receipted published (move T i (Sign j x) a b)
     unfolding move
-    beside-sign Q held j p x a b o I g h = rw o (record {
-      posts = L .posts;
-      opens = L .opens;
-      signers = signers-after Q held j p x I g h;
-      received = received-after Q held j p x I g h (nowEnough T i j p x) (mayReceive T i x) (now-enough Q held j p x I g h) (now-may Q held j p x I g h);
-      receipts = L .receipts;
-      boards = L .boards;
-      allowed = and-i _ _ (L .allowed) (imp-i _ _ (now-may Q held j p x I g h));
-    })
+    beside-sign Q held j p x a b o I g h =
+        let received = received-after Q held j p x I g h (nowEnough T i j p x) (mayReceive T i x) (now-enough Q held j p x I g h) (now-may Q held j p x I g h) in
+        rw o (search (signers-after Q held j p x I g h, received, and-i _ _ (L .allowed) (imp-i _ _ (now-may Q held j p x I g h))))
 
   module _ {posted : ℕ → Bool} {current : ℕ → ℕ} {signed : ℕ → ℕ → ℕ → Bool} {receipted : ℕ → ℕ → Bool} (bag : List Entry) {i : Ideal}
       (L : Beside posted current signed receipted (boardsIn bag) i) where
@@ -192,15 +172,7 @@ module _ (T : Table) where
 
         go : (stands bag p B ≡ true) ⊎ (stands bag p B ≡ false) → Beside posted current signed receipted (boardsIn (enter (Board p B) bag)) (move T i (Publish e) p B)
         go (inl c) = rw (boards-board p B bag, c, there ∙ c) L
-        go (inr c) = rw (boards-board p B bag, c, there ∙ c) (record {
-          posts = L .posts;
-          opens = L .opens;
-          signers = L .signers;
-          received = L .received;
-          receipts = L .receipts;
-          boards = rw (may c) (ap (λ (l : List (ℕ × ℕ)). l ++ ((p, B) ∷ [])) (L .boards));
-          allowed = and-i _ _ (L .allowed) (may c);
-        })
+        go (inr c) = rw (boards-board p B bag, c, there ∙ c, may c) (search (ap (λ (l : List (ℕ × ℕ)). l ++ ((p, B) ∷ [])) (L .boards), and-i _ _ (L .allowed) refl))
 
     -- a board that a quorum backs may be published, if it does not stand yet
     pub may-publish : Premise T → {shared backs : ℕ → ℕ → ℕ → Bool} {toBack : ℕ → ℕ} → Backings T backs shared signed toBack → Quorums T (stands bag) backs → Quorums T receipted shared

@@ -50,6 +50,7 @@ pub other-length : (s : List ℕ) → (length s ≡ 13 → ⊥) → Malformed �
 unfolding read
 other-length s n = rw (ne-eqb (length s) 13 n)
 
-pub thirteen : (s : List ℕ) → length s ≡ 13 → read s ≡ select (byteAt s 0) (ops (byteAt s 1) (byteAt s 2) (byteAt s 3) (byteAt s 4) (numberAt s 5 8))
+pub thirteen : (s : List ℕ) {r : Call} {op j k p x B : ℕ} → r ≡ select op (ops j k p x B) → length s ≡ 13
+    → op ≡ byteAt s 0 → j ≡ byteAt s 1 → k ≡ byteAt s 2 → p ≡ byteAt s 3 → x ≡ byteAt s 4 → B ≡ numberAt s 5 8 → r ≡ read s
 unfolding read
-thirteen s e = rw (eq-eqb (length s) 13 e)
+thirteen s e l op j k p x B = rw (eq-eqb (length s) 13 l, ← op, ← j, ← k, ← p, ← x, ← B) e

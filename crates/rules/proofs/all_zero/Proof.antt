@@ -1,3 +1,4 @@
+-- A sum of numbers is 0 where each of them is.
 use native.Mathlib.Omega.{arith}
 use Rattle.rules.proofs.Form.{some-not, last-one}
 use Rattle.rules.proofs.all_zero.Statement.{statement}

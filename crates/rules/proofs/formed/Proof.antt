@@ -1,3 +1,4 @@
+-- By the test: the step is formed where it holds.
 use Rattle.rules.proofs.Form.{is-formed, not-formed}
 use Rattle.rules.proofs.formed.Statement.{statement}
 use Rattle.rules.proofs.formed.Tie as tie

@@ -1,3 +1,4 @@
+-- A row of early returns over the ops from 10 on; no other op has a step.
 use Rattle.rules.specs.Form.{laterOps}
 use Rattle.rules.proofs.Form.{by-op}
 use borrow.Author.Needs.{needs}

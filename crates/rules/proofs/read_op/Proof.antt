@@ -1,3 +1,4 @@
+-- A row of early returns over the ops: the first that fits gives the step; what is left goes to read_later.
 use Rattle.rules.specs.Form.{ops}
 use Rattle.rules.proofs.Form.{by-op}
 use borrow.Author.Needs.{needs}

@@ -1,4 +1,4 @@
-use mathlib.Core.Path.{sym, _∙_}
+-- Bytes that are not 13 are no step; of 13 bytes the six fields are read, and the op finds its step among them.
 use Rattle.rules.proofs.Form.{other-length, thirteen}
 use borrow.Author.Needs.{needs}
 use Rattle.rules.proofs.read_step.Statement.{statement}
@@ -29,7 +29,7 @@ read-op-requires : tie.Need-read-op-requires
 read-op-requires c κs = search needs
 
 returns-2 : tie.Need-returns-2
-returns-2 c = c .read-op .ensures ∙ simp (c .before .byte-at5 .ensures, c .before .before .byte-at4 .ensures, c .before .before .before .byte-at3 .ensures, c .before .before .before .before .byte-at2 .ensures, c .before .before .before .before .before .byte-at .ensures, c .before .before .before .before .before .before .number-at .ensures .0) (sym (thirteen _ (c .before .before .before .before .before .before .before .if1 .left)))
+returns-2 c = search thirteen
 
 pub read-step-spec : {M : Type 1} → statement M
 read-step-spec =
