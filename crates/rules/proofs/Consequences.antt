@@ -48,59 +48,38 @@ module _ (T : Table) (Q : Premise T) where
 
     -- two items with enough honest signers do not clash: one honest peer holds both
     pub enough-apart : (p x q y : ℕ) → Enough T signed p x → Enough T signed q y → T .clash x y ≡ false
-    enough-apart p x q y a b = I .apart k p x (holds p x k (m .1 .0)) q y (holds q y k (m .1 .1))
-      where
-        m : (k : ℕ) × ((honestSigners T signed p x k ≡ true) × (honestSigners T signed q y k ≡ true))
-        m = parts-meet T Q (honestSigners T signed p x) (honestSigners T signed q y) (signer-honest T signed p x) (signer-honest T signed q y) a b
-
-        k : ℕ
-        k = m .0
+    enough-apart p x q y a b =
+        let (k, (u, v)) = parts-meet T Q (honestSigners T signed p x) (honestSigners T signed q y) (signer-honest T signed p x) (signer-honest T signed q y) a b in
+        I .apart k p x (holds p x k u) q y (holds q y k v)
 
     -- an item with enough honest signers was posted: one of them holds it
     pub enough-posted : (p x : ℕ) → Enough T signed p x → posted x ≡ true
-    enough-posted p x a = I .posts (m .0) p x (holds p x (m .0) (m .1))
-      where
-        m : (k : ℕ) × (honestSigners T signed p x k ≡ true)
-        m = weight-member (T .weightOf) (T .n) (honestSigners T signed p x) (omega (arith, needed-some T Q))
+    enough-posted p x a =
+        let (k, u) = weight-member (T .weightOf) (T .n) (honestSigners T signed p x) (omega (arith, needed-some T Q)) in
+        I .posts k p x (holds p x k u)
 
   -- what a quorum shared has enough honest signers: an honest sharer's database has a quorum
   pub shared-enough : {shared signed : ℕ → ℕ → ℕ → Bool} {db : ℕ → ℕ → ℕ → ℕ → Bool} {current : ℕ → ℕ} → Shares T shared db current → Known T db signed
       → (p x : ℕ) → Reached T shared p x → Enough T signed p x
-  shared-enough {shared} {signed} {db} S K p x a = go (m .0) (m .1)
-    where
-      m : (k : ℕ) × ((T .honest k ≡ true) × (shared k p x ≡ true) × (shared k p x ≡ true))
-      m = quorums-meet T Q (λ k. shared k p x) (λ k. shared k p x) a a
-
-      go : (k : ℕ) → (T .honest k ≡ true) × (shared k p x ≡ true) × (shared k p x ≡ true) → Enough T signed p x
-      go k e = enough-of signed p x (omega (arith, S k p x (e .1) (e .0) .2, weigh-mono T (db k p x) (λ l. signed l p x) (λ l. K k p x l)))
+  shared-enough {shared} {signed} {db} S K p x a =
+      let (k, (h, u, v)) = quorums-meet T Q (λ k. shared k p x) (λ k. shared k p x) a a in
+      enough-of signed p x (omega (arith, S k p x u h .2, weigh-mono T (db k p x) (λ l. signed l p x) (λ l. K k p x l)))
 
   module _ {backs shared signed : ℕ → ℕ → ℕ → Bool} {toBack : ℕ → ℕ} (I : Backings T backs shared signed toBack) where
     -- quorums back only one board of a period: one honest peer backed both
     pub one-backed : (p B C : ℕ) → Reached T backs p B → Reached T backs p C → B ≡ C
-    one-backed p B C b c = go (m .0) (m .1)
-      where
-        m : (k : ℕ) × ((T .honest k ≡ true) × (backs k p B ≡ true) × (backs k p C ≡ true))
-        m = quorums-meet T Q (λ k. backs k p B) (λ k. backs k p C) b c
-
-        go : (k : ℕ) → (T .honest k ≡ true) × (backs k p B ≡ true) × (backs k p C ≡ true) → B ≡ C
-        go k e = I .one k p B (e .1) (e .0) C (e .2)
+    one-backed p B C b c =
+        let (k, (h, u, v)) = quorums-meet T Q (λ k. backs k p B) (λ k. backs k p C) b c in
+        I .one k p B u h C v
 
     -- the items of a board that a quorum backs have enough honest signers
     pub backed-enough : (p B : ℕ) → Reached T backs p B → (x : ℕ) → x < T .items → bit B x ≡ true → Enough T signed p x
-    backed-enough p B b x hx e = go (m .0) (m .1)
-      where
-        m : (k : ℕ) × ((T .honest k ≡ true) × (backs k p B ≡ true) × (backs k p B ≡ true))
-        m = quorums-meet T Q (λ k. backs k p B) (λ k. backs k p B) b b
-
-        go : (k : ℕ) → (T .honest k ≡ true) × (backs k p B ≡ true) × (backs k p B ≡ true) → Enough T signed p x
-        go k u = enough-of signed p x (I .only k p B (u .1) (u .0) x hx e)
+    backed-enough p B b x hx e =
+        let (k, (h, u, v)) = quorums-meet T Q (λ k. backs k p B) (λ k. backs k p B) b b in
+        enough-of signed p x (I .only k p B u h x hx e)
 
     -- a board that a quorum backs has what a quorum shared: one honest peer did both
     pub backed-has : (p B x : ℕ) → Reached T backs p B → Reached T shared p x → bit B x ≡ true
-    backed-has p B x b a = go (m .0) (m .1)
-      where
-        m : (k : ℕ) × ((T .honest k ≡ true) × (backs k p B ≡ true) × (shared k p x ≡ true))
-        m = quorums-meet T Q (λ k. backs k p B) (λ k. shared k p x) b a
-
-        go : (k : ℕ) → (T .honest k ≡ true) × (backs k p B ≡ true) × (shared k p x ≡ true) → bit B x ≡ true
-        go k e = I .has k p B (e .1) (e .0) x (e .2)
+    backed-has p B x b a =
+        let (k, (h, u, v)) = quorums-meet T Q (λ k. backs k p B) (λ k. shared k p x) b a in
+        I .has k p B u h x v

@@ -8,7 +8,7 @@ use mathlib.Core.Logic.{⊎-elim}
 use lib.Dec.{eqb, ltb}
 use lib.ListN.{length, length-append}
 use borrow.Author.Tests.{eqb-false, ltb-false, leb-false, not-true}
-use Rattle.base.proofs.Truth.{split, false-true, and-i, and-l, and-r, or-r, or-cases, or-false-l, or-false-r, not-i}
+use Rattle.base.proofs.Truth.{split, false-true, and-i, and-l, and-r, or-cases, or-false-l, or-false-r, not-i}
 use Rattle.base.proofs.Bits.{pack-lt}
 use Rattle.base.specs.Sets.{add1, add2, add3, add4, setAt}
 use Rattle.base.proofs.Sets.{grow1, grow2, grow3, grow4, set-elim}
@@ -24,7 +24,7 @@ use Rattle.rules.specs.Run.{run}
 use Rattle.rules.specs.Valid.{Valid, CountersIn, BagIn, HeardIn, InTable, Peer, Cell, Spot, Spots, Sheet, different}
 use Rattle.rules.proofs.Answered.{Clear, judged}
 use Rattle.rules.proofs.Rows.{rows-grow}
-use Rattle.rules.proofs.Bag.{in-append, in-enter, eq-of-same, enter-cases, backing-in, hash-in}
+use Rattle.rules.proofs.Bag.{in-append, stays-in, eq-of-same, enter-cases, backing-in, hash-in}
 use Rattle.rules.proofs.Runs.{beside-run}
 
 different-append : (l : List Entry) (a : Entry) → different l ≡ true → isIn a l ≡ false → different (l ++ (a ∷ [])) ≡ true
@@ -71,7 +71,7 @@ module _ (T : Table) where
     -- the bag has an entry more, and what was heard is still there
     entered : (a : Entry) → InTable T a → isFull a (s .bag) ≡ false → Valid T (with-bag s (enter a (s .bag)))
     entered a t f =
-        let heard : HeardIn T (s .heard) (enter a (s .bag)) = λ j k p B h. let old = G .heard j k p B h in (old .0, in-enter (Hash k p B) a (s .bag) ∙ or-r (sameEntry (Hash k p B) a) _ (old .1)) in
+        let heard : HeardIn T (s .heard) (enter a (s .bag)) = λ j k p B h. let old = G .heard j k p B h in (old .0, stays-in a (Hash k p B) (s .bag) (old .1)) in
         search (heard, bag-enter (s .bag) (G .bag) a t f)
 
     -- each step, by the parts that it changes
