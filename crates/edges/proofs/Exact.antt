@@ -17,7 +17,7 @@ use Rattle.rules.specs.declared.Entry.{Entry}
 use Rattle.rules.specs.declared.Step.{Step}
 use Rattle.rules.specs.declared.Step.the-variants.{Post, Hand, Sign, Take, Share, Receipt, Close, Fetch, SendHash, Hear, Back, Publish, FalseSignature, FalseShare, FalseHash, FalseBacking, Down, Up}
 use Rattle.rules.specs.Table.{Table, weigh}
-use Rattle.rules.specs.Bag.{isIn, isHash, entryAt, noEntry, isFull}
+use Rattle.rules.specs.Bag.{isIn, isHash, entryAt, noEntry, capacity, isFull}
 use Rattle.rules.specs.State.{State}
 use Rattle.rules.specs.Rules.{rule, answer, next, full}
 use Rattle.rules.specs.Valid.{Peer}
@@ -33,17 +33,17 @@ no-hash bag e h = ap isHash (List·getD-eq-default bag noEntry h)
 
 -- the test of 13
 
-new-full : (a : Entry) (bag : List Entry) → isIn a bag ≡ false → 256 ≤ length bag → isFull a bag ≡ true
+new-full : (a : Entry) (bag : List Entry) → isIn a bag ≡ false → capacity ≤ length bag → isFull a bag ≡ true
 unfolding isFull
-new-full a bag n f = rw (n, le-leb 256 (length bag) f)
+new-full a bag n f = rw (n, le-leb capacity (length bag) f)
 
 there-not-full : (a : Entry) (bag : List Entry) → isIn a bag ≡ true → isFull a bag ≡ false
 unfolding isFull
 there-not-full a bag i = rw i
 
-room-not-full : (a : Entry) (bag : List Entry) → length bag < 256 → isFull a bag ≡ false
+room-not-full : (a : Entry) (bag : List Entry) → length bag < capacity → isFull a bag ≡ false
 unfolding isFull
-room-not-full a bag r = rw (lt-leb 256 (length bag) r) (and-false (not (isIn a bag)))
+room-not-full a bag r = rw (lt-leb capacity (length bag) r) (and-false (not (isIn a bag)))
 
 module _ (T : Table) (s : State) where
   down : (j : ℕ) (st : Step) → NeedsUp T j st → Peer T j → T .honest j ≡ true → s .down j ≡ true → answer T s st ≡ 8
@@ -114,7 +114,7 @@ module _ (T : Table) (s : State) where
   entering _ _ (false-hash j p B a b c d) v e = search (row, posted-all) depth 9
   entering _ _ (false-backing j p B a b c d) v e = search (row, posted-all) depth 9
 
-  with-room : length (s .bag) < 256 → (st : Step) → Without 13 (rule T s st .refusals)
+  with-room : length (s .bag) < capacity → (st : Step) → Without 13 (rule T s st .refusals)
   unfolding rule
   with-room r (Post x) = tt
   with-room r (Hand j x) = tt
@@ -135,7 +135,7 @@ module _ (T : Table) (s : State) where
   with-room r (Down j) = tt
   with-room r (Up j) = tt
 
-  not-with-room : Dec (256 ≤ length (s .bag)) → (st : Step) → answer T s st ≡ 13 → 256 ≤ length (s .bag)
+  not-with-room : Dec (capacity ≤ length (s .bag)) → (st : Step) → answer T s st ≡ 13 → capacity ≤ length (s .bag)
   unfolding answer
   not-with-room (yes h) st e = h
   not-with-room (no h) st e = absurd (never 13 (rule T s st .refusals) (λ z. omega arith) (with-room (omega arith) st) e)
@@ -162,7 +162,7 @@ module _ (T : Table) (s : State) where
     full-new = λ st a h n f. entering st a h _ (search (row, new-full));
     full-there = λ st a h i. entering st a h _ (search (row, there-not-full));
     full-room = λ st a h r. entering st a h _ (search (row, room-not-full));
-    full-only = λ st e. not-with-room (decLe 256 (length (s .bag))) st e;
+    full-only = λ st e. not-with-room (decLe capacity (length (s .bag))) st e;
     take-unsigned = λ j k p x a b c d e. search (row, le-ltb) depth 10;
     shares-unseen = λ st shared n. shares-unseen T s shared st n;
     signatures-unseen = λ p x signed db. refl;

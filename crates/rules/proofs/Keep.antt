@@ -80,7 +80,7 @@ module _ (T : Table) (Q : Premise T) where
           only = λ x hx h. omega (arith, leb-true (T .t) (weigh T (s .db j p x)) (sym (on x hx) ∙ h), weigh-mono T (s .db j p x) (λ k. s .signed k p x) (λ k. I .known j p x k));
         }
 
-    -- each step, by the parts that it changes
+    -- each step, by the parts that it changes; `search` finds the others in I, as they were
     pub keep : (st : Step) → Clear T s st → Inv (rule T s st .effect) (moved T s i st)
     unfolding rule move backingNamed deed deedOf
     keep (Post x) c = search (holdings-post T (I .holdings) x, beside-post T (I .beside) x 0 0)

@@ -17,7 +17,7 @@ use Rattle.rules.specs.declared.Entry.the-variants.{Hash, Backing, Board
 use Rattle.rules.specs.declared.Step.{Step}
 use Rattle.rules.specs.declared.Step.the-variants.{Post, Hand, Sign, Take, Share, Receipt, Close, Fetch, SendHash, Hear, Back, Publish, FalseSignature, FalseShare, FalseHash, FalseBacking, Down, Up}
 use Rattle.rules.specs.Table.{Table}
-use Rattle.rules.specs.Bag.{sameEntry, isIn, entryAt, signerOf, periodOf, boardOf, boardNamed, enter, isFull}
+use Rattle.rules.specs.Bag.{sameEntry, isIn, entryAt, signerOf, periodOf, boardOf, boardNamed, enter, capacity, isFull}
 use Rattle.rules.specs.State.{State, fresh, with-bag}
 use Rattle.rules.specs.Rules.{rule, boardFrom, boardBy, addRows}
 use Rattle.rules.specs.Run.{run}
@@ -53,7 +53,7 @@ module _ (T : Table) where
   bag-enter : (bag : List Entry) → BagIn T bag → (a : Entry) → InTable T a → isFull a bag ≡ false → BagIn T (enter a bag)
   unfolding isFull
   bag-enter bag G a t f = enter-cases (λ l. BagIn T l) a bag (λ m. G) (λ m. record {
-    size = rw (length-append bag (a ∷ [])) (omega (arith, leb-false 256 (length bag) (rw m at f)));
+    size = rw (length-append bag (a ∷ [])) (omega (arith, leb-false capacity (length bag) (rw m at f)));
     entries = λ e h. ⊎-elim (λ u. subst (λ z. InTable T z) (sym (eq-of-same e a u)) t) (λ u. G .entries e u) (or-cases (sameEntry e a) (isIn e bag) (sym (in-append e a bag) ∙ h));
     apart = different-append bag a (G .apart) m;
   })
@@ -74,7 +74,7 @@ module _ (T : Table) where
         let heard : HeardIn T (s .heard) (enter a (s .bag)) = λ j k p B h. let old = G .heard j k p B h in (old .0, stays-in a (Hash k p B) (s .bag) (old .1)) in
         search (heard, bag-enter (s .bag) (G .bag) a t f)
 
-    -- each step, by the parts that it changes
+    -- each step, by the parts that it changes; `search` finds the others in G, as they were
     pub keeps-valid : (st : Step) → Clear T s st → Valid T (rule T s st .effect)
     unfolding rule
     keeps-valid (Post x) c = let posts : (y : ℕ) → add1 x (s .posted) y ≡ true → y < T .items = grow1 x (s .posted) (search judged) (G .sets .posts) in search
