@@ -8,7 +8,7 @@ use lib.Dec.{leb}
 use borrow.Author.Tests.{le-leb, lt-leb}
 use Rattle.base.specs.Weight.{weight, ones}
 use Rattle.base.proofs.Truth.{eqb-self, eqb-sym}
-use Rattle.ballot.specs.Header.{leastTable}
+use Rattle.header.specs.Header.{leastTable}
 use Rattle.rules.specs.Demand3.{Premise}
 use Rattle.rules.proofs.Demand3.{counted}
 use Rattle.edges.specs.Cases.{table}

@@ -4,7 +4,7 @@ use mathlib.Core.Bool.{true}
 use mathlib.Core.List.{List, [], _∷_, _++_}
 use mathlib.Core.Path.{_≡_}
 use mathlib.Core.Logic.{_↔_}
-use Rattle.ballot.specs.Header.{leastTable}
+use Rattle.header.specs.Header.{leastTable}
 use Rattle.rules.specs.Table.{Table, weigh}
 use Rattle.rules.specs.Demand3.{Premise}
 use Rattle.edges.specs.Cases.{table}
