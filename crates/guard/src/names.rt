@@ -1,14 +1,14 @@
 // Names and roles: 6 and 7.
 ghost use mathlib.Core.Path.{_≡_};
-ghost use mathlib.Core.Bool.{_||_, not};
-ghost use Prim.Native.Nat.{_^_, _≤_};
-ghost use lib.Dec.{eqb, ltb};
+ghost use mathlib.Core.Bool.{not};
+ghost use Prim.Native.Nat.{_≤_};
 ghost use Rattle.base.specs.Bits.{member};
+ghost use Rattle.rules.specs.Rules.{noPeer, noPeriod, noItem, noBoard};
 use view::Head;
 
 // There is no peer j.
 pub fn no_peer(h: Head, j: u8) -> bool
-    ensures { λ r. ⌜ r ≡ (eqb j 0 || ltb (h .n) j) ⌝ }
+    ensures { λ r. ⌜ r ≡ noPeer (h .n) j ⌝ }
 {
     if j == 0 {
         return true;
@@ -18,14 +18,14 @@ pub fn no_peer(h: Head, j: u8) -> bool
 
 // There is no period p.
 pub fn no_period(h: Head, p: u8) -> bool
-    ensures { λ r. ⌜ r ≡ not (ltb p (h .periods)) ⌝ }
+    ensures { λ r. ⌜ r ≡ noPeriod (h .periods) p ⌝ }
 {
     h.periods <= p
 }
 
 // There is no item x.
 pub fn no_item(h: Head, x: u8) -> bool
-    ensures { λ r. ⌜ r ≡ not (ltb x (h .items)) ⌝ }
+    ensures { λ r. ⌜ r ≡ noItem (h .items) x ⌝ }
 {
     h.items <= x
 }
@@ -33,7 +33,7 @@ pub fn no_item(h: Head, x: u8) -> bool
 // Whether a set of items has one that is not below `items`.
 fn has_above(board: u64, items: u8) -> bool
     requires { ⌜ items ≤ 64 ⌝ }
-    ensures { λ r. ⌜ r ≡ not (ltb board (2 ^ items)) ⌝ }
+    ensures { λ r. ⌜ r ≡ noBoard items board ⌝ }
 {
     if items == 64 {
         return false;
@@ -44,7 +44,7 @@ fn has_above(board: u64, items: u8) -> bool
 // Whether the board has an item that the table has not.
 pub fn no_board(h: Head, board: u64) -> bool
     requires { ⌜ h .items ≤ 64 ⌝ }
-    ensures { λ r. ⌜ r ≡ not (ltb board (2 ^ h .items)) ⌝ }
+    ensures { λ r. ⌜ r ≡ noBoard (h .items) board ⌝ }
 {
     has_above(board, h.items)
 }

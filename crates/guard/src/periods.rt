@@ -1,7 +1,7 @@
 // Whether a peer is down, and its periods: 8 and 9.
 ghost use mathlib.Core.Path.{_≡_};
-ghost use mathlib.Core.Bool.{not};
 ghost use lib.Dec.{eqb, ltb};
+ghost use Rattle.rules.specs.Rules.{noneOpen, notClosed};
 ghost use Rattle.state.specs.declared.Number.the-variants.{OpenOf, NextOf, DownOf};
 ghost use Rattle.state.specs.Contents.{contents, Canon};
 use state::numbers::down_of;
@@ -20,7 +20,7 @@ pub fn is_down(s: &[u8], j: u8) -> bool
 // Peer j has no open period.
 pub fn none_open(s: &[u8], h: Head, j: u8) -> bool
     requires { ⌜ Canon (now s) ⌝ }
-    ensures { λ r. ⌜ r ≡ not (ltb (contents (now (s .entry)) .number (OpenOf j)) (h .periods)) ⌝ }
+    ensures { λ r. ⌜ r ≡ noneOpen (h .periods) (contents (now (s .entry)) .number (OpenOf j)) ⌝ }
 {
     h.periods <= open_of(s, j)
 }
@@ -36,7 +36,7 @@ pub fn beyond(s: &[u8], j: u8, p: u8) -> bool
 // Peer j has not closed period p.
 pub fn not_closed(s: &[u8], j: u8, p: u8) -> bool
     requires { ⌜ Canon (now s) ⌝ }
-    ensures { λ r. ⌜ r ≡ not (ltb p (contents (now (s .entry)) .number (OpenOf j))) ⌝ }
+    ensures { λ r. ⌜ r ≡ notClosed (contents (now (s .entry)) .number (OpenOf j)) p ⌝ }
 {
     open_of(s, j) <= p
 }
@@ -44,7 +44,7 @@ pub fn not_closed(s: &[u8], j: u8, p: u8) -> bool
 // Peer j has backed every period that it has closed.
 pub fn all_backed(s: &[u8], j: u8) -> bool
     requires { ⌜ Canon (now s) ⌝ }
-    ensures { λ r. ⌜ r ≡ not (ltb (contents (now (s .entry)) .number (NextOf j)) (contents (now (s .entry)) .number (OpenOf j))) ⌝ }
+    ensures { λ r. ⌜ r ≡ notClosed (contents (now (s .entry)) .number (OpenOf j)) (contents (now (s .entry)) .number (NextOf j)) ⌝ }
 {
     open_of(s, j) <= next_of(s, j)
 }

@@ -1,11 +1,11 @@
 // Whether fewer than t peers signed or gave a receipt share: 12.
 ghost use mathlib.Core.Path.{_≡_};
 ghost use mathlib.Core.Bool.{not};
-ghost use lib.Dec.{leb};
-ghost use Rattle.base.specs.Weight.{weight, ones};
+ghost use Rattle.rules.specs.Table.{quorum};
 ghost use Rattle.state.specs.declared.Fact.the-variants.{Shared, Known};
 ghost use Rattle.state.specs.declared.Number.the-variants.{OpenOf};
 ghost use Rattle.state.specs.Contents.{contents};
+ghost use Rattle.view.specs.View.{noClash, tableOf};
 ghost use Rattle.view.specs.Ready.{Ready};
 use sets::sharer_count;
 use sets::signer_count;
@@ -21,7 +21,7 @@ fn wide(x: u8) -> u32
 // Peer j's database has fewer than t signers on item x in its open period.
 pub fn few_signers(s: &[u8], h: Head, j: u8, x: u8) -> bool
     requires { ⌜ Ready h (now s) ⌝ }
-    ensures { λ r. ⌜ r ≡ not (leb (h .t) (weight ones (h .n) (λ k. contents (now (s .entry)) .has (Known j (contents (now (s .entry)) .number (OpenOf j)) x k)))) ⌝ }
+    ensures { λ r. ⌜ r ≡ not (quorum (tableOf h noClash) (λ k. contents (now (s .entry)) .has (Known j (contents (now (s .entry)) .number (OpenOf j)) x k))) ⌝ }
 {
     let count = signer_count(s, j, open_of(s, j), x);
     count < wide(h.t)
@@ -30,7 +30,7 @@ pub fn few_signers(s: &[u8], h: Head, j: u8, x: u8) -> bool
 // Fewer than t receipt shares on item x in period p are outside.
 pub fn few_sharers(s: &[u8], h: Head, p: u8, x: u8) -> bool
     requires { ⌜ Ready h (now s) ⌝ }
-    ensures { λ r. ⌜ r ≡ not (leb (h .t) (weight ones (h .n) (λ k. contents (now (s .entry)) .has (Shared k p x)))) ⌝ }
+    ensures { λ r. ⌜ r ≡ not (quorum (tableOf h noClash) (λ k. contents (now (s .entry)) .has (Shared k p x))) ⌝ }
 {
     let count = sharer_count(s, p, x);
     count < wide(h.t)

@@ -1,13 +1,12 @@
 // Tests of steps 9 and 11 on a peer's own board, which the caller has made once.
 ghost use mathlib.Core.Path.{_≡_};
 ghost use mathlib.Core.Bool.{not};
-ghost use lib.Dec.{leb};
-ghost use Rattle.base.specs.Weight.{weight, ones};
+ghost use Rattle.rules.specs.Table.{quorum};
 ghost use Rattle.rules.specs.declared.Entry.the-variants.{Hash, Backing};
 ghost use Rattle.rules.specs.Bag.{isFull};
 ghost use Rattle.state.specs.declared.Number.the-variants.{NextOf};
 ghost use Rattle.state.specs.Contents.{contents};
-ghost use Rattle.view.specs.View.{boardOn, stateOf};
+ghost use Rattle.view.specs.View.{noClash, tableOf, stateOf, boardOn};
 ghost use Rattle.view.specs.Ready.{Ready};
 use rules::Entry;
 use view::Head;
@@ -23,7 +22,7 @@ pub fn hash_full(s: &[u8], h: Head, j: u8, p: u8, board: u64) -> bool
 // Fewer than t signers among the hashes that peer j heard have its board of period c.
 pub fn few_heard_own(s: &[u8], h: Head, j: u8, c: u8, board: u64) -> bool
     requires { ⌜ Ready h (now s) × (c ≡ contents (now s) .number (NextOf j)) × (board ≡ boardOn h (now s) j (contents (now s) .number (NextOf j))) ⌝ }
-    ensures { λ r. ⌜ r ≡ not (leb (h .t) (weight ones (h .n) (λ k. stateOf (contents (now (s .entry))) .heard j k (contents (now (s .entry)) .number (NextOf j)) (boardOn h (now (s .entry)) j (contents (now (s .entry)) .number (NextOf j)))))) ⌝ }
+    ensures { λ r. ⌜ r ≡ not (quorum (tableOf h noClash) (λ k. stateOf (contents (now (s .entry))) .heard j k (contents (now (s .entry)) .number (NextOf j)) (boardOn h (now (s .entry)) j (contents (now (s .entry)) .number (NextOf j))))) ⌝ }
 {
     support::signers::few_heard(s, h, j, c, board)
 }

@@ -4,9 +4,9 @@ use mathlib.Core.List.{List}
 use mathlib.Core.Path.{_≡_, refl, ap, _∙_}
 use mathlib.Core.Bool.{Bool, true, false, cond}
 use Rattle.rules.specs.declared.Entry.{Entry}
-use Rattle.rules.specs.declared.Entry.the-variants.{Hash, Backing, Board}
+use Rattle.rules.specs.declared.Entry.the-variants.{Hash, Backing}
 use Rattle.rules.specs.declared.Step.the-variants.{Post, Hand, Sign, Take, Share, Receipt, Close, Fetch, SendHash, Hear, Back, Publish, FalseSignature, FalseShare, FalseHash, FalseBacking, Down, Up}
-use Rattle.rules.specs.Bag.{isIn, entryAt, periodOf, boardOf}
+use Rattle.rules.specs.Bag.{isIn, boardNamed}
 use Rattle.rules.specs.Rules.{boardBy}
 use Rattle.state.specs.declared.Number.{Number}
 use Rattle.view.specs.View.{stateOf}
@@ -102,7 +102,7 @@ module _ (T : Table) (s t : List ℕ) where
       counted : store (NextOf j) (after .number (NextOf j) + 1) after ≡ store (NextOf j) (contents s .number (NextOf j) + 1) after
       counted = ap (λ (v : ℕ). store (NextOf j) (v + 1) after) (same-number (Backing j q B) (contents s) (NextOf j))
 
-  pub did-publish : (n : ℕ) (x : Entry) → x ≡ Board (periodOf (entryAt (contents s .bag) n)) (boardOf (entryAt (contents s .bag) n)) → Holds t (enterOn x (contents s)) → Holds t (effectOn T (contents s) (Publish n))
+  pub did-publish : (n : ℕ) (x : Entry) → x ≡ boardNamed (contents s .bag) n → Holds t (enterOn x (contents s)) → Holds t (effectOn T (contents s) (Publish n))
   unfolding effectOn
   did-publish n x e h = rw e at h
 

@@ -1,10 +1,7 @@
 -- An entry entered: it was there, or there was room for it.
 use Prim.Native.Nat.{ℕ, _<_}
-use mathlib.Core.Bool.{Bool, true, false, not, _&&_}
+use mathlib.Core.Bool.{Bool, true, false}
 use mathlib.Core.List.{List}
-use mathlib.Core.Path.{ap, ap₂, _∙_}
-use Rattle.rules.specs.declared.Entry.the-variants.{Board}
-use Rattle.rules.specs.Bag.{periodOf, boardOf}
 use mathlib.Core.Path.{_≡_}
 use lib.Dec.{leb}
 use lib.ListN.{length}
@@ -26,7 +23,3 @@ entered-new s t x e f h = rw (← e, f) h
 pub has-room : (s : List ℕ) (x : Entry) {r : Bool} → isFull x (contents s .bag) ≡ false → r ≡ isIn x (contents s .bag) → r ≡ false → length (contents s .bag) < entries
 unfolding isFull
 has-room s x full e f = leb-false entries (length (contents s .bag)) (rw (← e, f) at full)
-
--- an entry's period and board, as a board
-pub as-board : (x y : Entry) (p B : ℕ) → x ≡ y → p ≡ periodOf x → B ≡ boardOf x → Board p B ≡ Board (periodOf y) (boardOf y)
-as-board x y p B e i k = ap₂ Board (i ∙ ap periodOf e) (k ∙ ap boardOf e)

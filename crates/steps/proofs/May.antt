@@ -8,10 +8,10 @@ use lib.Dec.{eqb, ltb}
 use borrow.Author.Tests.{eqb-false, ltb-true, ltb-false, not-false}
 use Rattle.base.proofs.Truth.{or-false-l, or-false-r}
 use Rattle.rules.specs.declared.Entry.{Entry}
-use Rattle.rules.specs.declared.Entry.the-variants.{Hash, Backing, Board}
+use Rattle.rules.specs.declared.Entry.the-variants.{Hash, Backing}
 use Rattle.rules.specs.declared.Step.{Step}
 use Rattle.rules.specs.declared.Step.the-variants.{Post, Hand, Sign, Take, Share, Receipt, Close, Fetch, SendHash, Hear, Back, Publish, FalseSignature, FalseShare, FalseHash, FalseBacking, Down, Up}
-use Rattle.rules.specs.Bag.{isIn, isFull, entryAt, periodOf, boardOf}
+use Rattle.rules.specs.Bag.{isIn, isFull, boardNamed}
 use Rattle.rules.specs.Rules.{rule, boardBy}
 use Rattle.rules.proofs.Answered.{Clear, answered}
 use Rattle.state.specs.declared.Fact.the-variants.{Posted, Signed, Shared, Receipted, Held, Known, Heard}
@@ -118,7 +118,7 @@ module _ (h : Head) (clash : ℕ → ℕ → Bool) (s : List ℕ) (R : Ready h s
     unfolding rule
     room-for-backing j q B e z k i = let c = clear (Back j) e z in rw (k, i) (search)
 
-    pub room-for-board : (n : ℕ) (x : Entry) → a ≡ answerOn h clash s (Publish n) → a ≡ 0 → x ≡ Board (periodOf (entryAt (contents s .bag) n)) (boardOf (entryAt (contents s .bag) n)) → isFull x (contents s .bag) ≡ false
+    pub room-for-board : (n : ℕ) (x : Entry) → a ≡ answerOn h clash s (Publish n) → a ≡ 0 → x ≡ boardNamed (contents s .bag) n → isFull x (contents s .bag) ≡ false
     unfolding rule
     room-for-board n x e z i = let c = clear (Publish n) e z in rw i (search)
 

@@ -4,13 +4,11 @@ ghost use Prim.Native.Nat.{_+_, _<_};
 ghost use Rattle.state.specs.declared.Number.the-variants.{OpenOf, NextOf};
 ghost use Rattle.state.specs.Facts.{Peer};
 ghost use mathlib.Core.Bool.{false};
-ghost use Rattle.rules.specs.declared.Entry.the-variants.{Board};
-ghost use Rattle.rules.specs.Bag.{isFull, entryAt, periodOf, boardOf};
+ghost use Rattle.rules.specs.Bag.{isFull};
 ghost use Rattle.state.specs.Contents.{contents, Canon, Holds, store};
 ghost use Rattle.view.specs.Effect.{enterOn};
 ghost use Rattle.steps.specs.Stepped.{countersOf};
 use bag::append;
-use bag::entry_at;
 use bag::is_in;
 use counters::Counters;
 use rules::Entry;
@@ -57,16 +55,4 @@ pub fn enter(s: &mut [u8], x: Entry)
         return;
     }
     append(s, x);
-}
-
-// The period and board of entry e, as a board.
-pub fn sheet_of(s: &[u8], e: u8) -> Entry
-    requires { ⌜ Canon (now s) ⌝ }
-    ensures { λ r. ⌜ r ≡ Board (periodOf (entryAt (contents (now (s .entry)) .bag) e)) (boardOf (entryAt (contents (now (s .entry)) .bag) e)) ⌝ }
-{
-    let x = entry_at(s, e as usize);
-    Entry::Board(
-        support::entry::period_of(x),
-        support::entry::board_of_entry(x),
-    )
 }

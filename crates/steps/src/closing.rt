@@ -7,11 +7,11 @@ ghost use Rattle.steps.specs.Stepped.{Stepped};
 use crate::change::enter;
 use crate::change::raise_next;
 use crate::change::raise_open;
-use crate::change::sheet_of;
 use rules::Entry;
 use state::Fact;
 use state::facts::add_fact;
 use state::numbers::next_of;
+use support::entry::board_named;
 use view::Head;
 
 // 7, close: peer j closes its open period.
@@ -92,7 +92,7 @@ pub fn step_publish(s: &mut [u8], h: Head, e: u8) -> u8
     if a != 0 {
         return a;
     }
-    let x = sheet_of(s, e);
+    let x = board_named(s, e);
     enter(s, x);
     0
 }

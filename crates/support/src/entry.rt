@@ -1,8 +1,8 @@
 // Entries of the bag: 10, and the room for one more: 13.
 ghost use mathlib.Core.Path.{_≡_};
 ghost use mathlib.Core.Bool.{not};
-ghost use lib.Dec.{ltb};
-ghost use Rattle.rules.specs.Bag.{isHash, isBacking, isFull, entryAt, periodOf, boardOf};
+ghost use Rattle.rules.specs.Bag.{isHash, isBacking, isFull, entryAt, periodOf, boardOf, boardNamed};
+ghost use Rattle.rules.specs.Rules.{notClosed};
 ghost use Rattle.state.specs.declared.Number.the-variants.{OpenOf};
 ghost use Rattle.state.specs.Contents.{contents, Canon};
 use bag::bag_len;
@@ -56,6 +56,15 @@ pub fn board_of_entry(x: Entry) -> u64
     }
 }
 
+// The board that entry e names.
+pub fn board_named(s: &[u8], e: u8) -> Entry
+    requires { ⌜ Canon (now s) ⌝ }
+    ensures { λ r. ⌜ r ≡ boardNamed (contents (now (s .entry)) .bag) e ⌝ }
+{
+    let x = entry_at(s, e as usize);
+    Entry::Board(period_of(x), board_of_entry(x))
+}
+
 // Entry e is absent, or no hash.
 pub fn not_hash(s: &[u8], e: u8) -> bool
     requires { ⌜ Canon (now s) ⌝ }
@@ -75,7 +84,7 @@ pub fn not_backing(s: &[u8], e: u8) -> bool
 // Peer j has not closed the period of entry e.
 pub fn entry_not_closed(s: &[u8], j: u8, e: u8) -> bool
     requires { ⌜ Canon (now s) ⌝ }
-    ensures { λ r. ⌜ r ≡ not (ltb (periodOf (entryAt (contents (now (s .entry)) .bag) e)) (contents (now (s .entry)) .number (OpenOf j))) ⌝ }
+    ensures { λ r. ⌜ r ≡ notClosed (contents (now (s .entry)) .number (OpenOf j)) (periodOf (entryAt (contents (now (s .entry)) .bag) e)) ⌝ }
 {
     open_of(s, j) <= period_of(entry_at(s, e as usize))
 }

@@ -5,12 +5,11 @@ ghost use Prim.Native.Nat.{_<_};
 ghost use lib.Dec.{leb};
 ghost use lib.Count.{ones as onesIn};
 ghost use lib.ListN.{length};
-ghost use Rattle.base.specs.Weight.{weight, ones};
-ghost use Rattle.rules.specs.declared.Entry.the-variants.{Backing};
-ghost use Rattle.rules.specs.Bag.{isIn};
+ghost use Rattle.rules.specs.Table.{quorum};
+ghost use Rattle.rules.specs.Rules.{backers};
 ghost use Rattle.state.specs.Layout.{entries};
 ghost use Rattle.state.specs.Contents.{contents, Canon};
-ghost use Rattle.view.specs.View.{stateOf};
+ghost use Rattle.view.specs.View.{noClash, tableOf, stateOf};
 ghost use Rattle.view.specs.Ready.{Ready};
 ghost use Rattle.support.specs.Signers.{heardSigner, backSigner, withPeer, gathered};
 use bag::bag_len;
@@ -99,7 +98,7 @@ fn fewer(set: u16, t: u8) -> bool
 // Peer j heard fewer than t hashes of the board in period p.
 pub fn few_heard(s: &[u8], h: Head, j: u8, p: u8, board: u64) -> bool
     requires { ⌜ Ready h (now s) ⌝ }
-    ensures { λ r. ⌜ r ≡ not (leb (h .t) (weight ones (h .n) (λ k. stateOf (contents (now (s .entry))) .heard j k p board))) ⌝ }
+    ensures { λ r. ⌜ r ≡ not (quorum (tableOf h noClash) (λ k. stateOf (contents (now (s .entry))) .heard j k p board)) ⌝ }
 {
     fewer(heard_signers(s, j, p, board), h.t)
 }
@@ -107,7 +106,7 @@ pub fn few_heard(s: &[u8], h: Head, j: u8, p: u8, board: u64) -> bool
 // The bag has fewer than t backings of the board in period p.
 pub fn few_backers(s: &[u8], h: Head, p: u8, board: u64) -> bool
     requires { ⌜ Ready h (now s) ⌝ }
-    ensures { λ r. ⌜ r ≡ not (leb (h .t) (weight ones (h .n) (λ k. isIn (Backing k p board) (contents (now (s .entry)) .bag)))) ⌝ }
+    ensures { λ r. ⌜ r ≡ not (quorum (tableOf h noClash) (backers (contents (now (s .entry)) .bag) p board)) ⌝ }
 {
     fewer(backers(s, p, board), h.t)
 }

@@ -1,12 +1,12 @@
--- What a step that is not refused does to the contents: facts are added, numbers stored, entries appended.
+-- What a step that is not refused does to the contents: facts are added, numbers stored, entries appended. It is the effect of `rule`, with heard hashes by their entry numbers (proofs/Meets).
 use Prim.Native.Nat.{_+_}
 use mathlib.Core.Bool.{cond}
 use Rattle.rules.specs.declared.Entry.{Entry}
-use Rattle.rules.specs.declared.Entry.the-variants.{Hash, Backing, Board}
+use Rattle.rules.specs.declared.Entry.the-variants.{Hash, Backing}
 use Rattle.rules.specs.declared.Step.{Step}
 use Rattle.rules.specs.declared.Step.the-variants.{Post, Hand, Sign, Take, Share, Receipt, Close, Fetch, SendHash, Hear, Back, Publish, FalseSignature, FalseShare, FalseHash, FalseBacking, Down, Up}
 use Rattle.rules.specs.Table.{Table}
-use Rattle.rules.specs.Bag.{isIn, entryAt, periodOf, boardOf}
+use Rattle.rules.specs.Bag.{isIn, boardNamed}
 use Rattle.rules.specs.Rules.{boardBy}
 use Rattle.state.specs.declared.Fact.the-variants.{Posted, Signed, Shared, Receipted, Held, Known, Heard}
 use Rattle.state.specs.declared.Number.the-variants.{OpenOf, NextOf, DownOf}
@@ -30,7 +30,7 @@ effectOn T c (Fetch j k p) = fetched j k p c
 effectOn T c (SendHash j p) = enterOn (Hash j p (boardBy T (stateOf c) j p)) c
 effectOn T c (Hear j e) = insert (Heard j e) c
 effectOn T c (Back j) = store (NextOf j) (c .number (NextOf j) + 1) (enterOn (Backing j (c .number (NextOf j)) (boardBy T (stateOf c) j (c .number (NextOf j)))) c)
-effectOn T c (Publish e) = enterOn (Board (periodOf (entryAt (c .bag) e)) (boardOf (entryAt (c .bag) e))) c
+effectOn T c (Publish e) = enterOn (boardNamed (c .bag) e) c
 effectOn T c (FalseSignature j p x) = insert (Signed j p x) c
 effectOn T c (FalseShare j p x) = insert (Shared j p x) c
 effectOn T c (FalseHash j p B) = enterOn (Hash j p B) c

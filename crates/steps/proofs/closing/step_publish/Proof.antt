@@ -16,8 +16,8 @@ same-length c = search needs
 returns : tie.Need-returns
 returns c = search refused
 
-sheet-of-requires : tie.Need-sheet-of-requires
-sheet-of-requires c κs = search (asked, still-canon) depth 6
+board-named-requires : tie.Need-board-named-requires
+board-named-requires c κs = search (asked, still-canon) depth 6
 
 enter-requires : tie.Need-enter-requires
 enter-requires c κs = search (asked, room-for-board) depth 6
@@ -35,7 +35,7 @@ step-publish-spec =
     judge-publish-requires
     same-length
     returns
-    sheet-of-requires
+    board-named-requires
     enter-requires
     same-length-2
     returns-2)

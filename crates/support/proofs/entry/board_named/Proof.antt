@@ -1,8 +1,8 @@
--- By `as-board`.
-use Rattle.steps.proofs.Entered.{as-board}
+-- By `is-named`.
+use Rattle.support.proofs.Named.{is-named}
 use borrow.Author.Needs.{needs}
-use Rattle.steps.proofs.change.sheet_of.Statement.{statement}
-use Rattle.steps.proofs.change.sheet_of.Tie as tie
+use Rattle.support.proofs.entry.board_named.Statement.{statement}
+use Rattle.support.proofs.entry.board_named.Tie as tie
 
 entry-at-requires : tie.Need-entry-at-requires
 entry-at-requires c κs = search needs
@@ -14,10 +14,10 @@ board-of-entry-requires : tie.Need-board-of-entry-requires
 board-of-entry-requires c κs = search needs
 
 returns : tie.Need-returns
-returns c = as-board _ _ _ _ (c .before .before .entry-at .ensures) (c .before .period-of .ensures) (c .board-of-entry .ensures)
+returns c = search is-named
 
-pub sheet-of-spec : {M : Type 1} → statement M
-sheet-of-spec =
+pub board-named-spec : {M : Type 1} → statement M
+board-named-spec =
     tie.close
     (tie.spec
     entry-at-requires
