@@ -26,12 +26,12 @@ use Rattle.sets.specs.Sets.{heldOf}
 use Rattle.view.specs.declared.Head.{Head}
 use Rattle.view.specs.View.{noClash, inRow, tableOf, stateOf}
 use Rattle.view.specs.Ready.{Ready}
-use Rattle.guard.specs.Meet.{meets, holdsOf}
+use Rattle.guard.specs.Common.{inCommon, holdsOf}
 
 -- two sets below 2 ^ 64 have no item in common exactly if their conjunction is 0
-pub and-meets : (a b : ℕ) → a < 2 ^ 64 → b < 2 ^ 64 → not (eqb (bitAnd a b) 0) ≡ meets a b
-unfolding meets
-and-meets a b p q = iff _ _ to from
+pub and-common : (a b : ℕ) → a < 2 ^ 64 → b < 2 ^ 64 → not (eqb (bitAnd a b) 0) ≡ inCommon a b
+unfolding inCommon
+and-common a b p q = iff _ _ to from
   where
     to : not (eqb (bitAnd a b) 0) ≡ true → any 64 (λ y. bit a y && bit b y) ≡ true
     to n = go (either (any 64 (λ y. bit a y && bit b y)))
@@ -56,10 +56,10 @@ module _ (h : Head) (s : List ℕ) (R : Ready h s) (row j : ℕ) where
   unfolding heldOf
   held-bit q y l = bit-pack items (holds q) y l
 
-  -- what peer j holds in a period meets the row exactly if an item of the table is in both
-  row-meets : (q : ℕ) → meets (heldOf (contents s) j q) row ≡ any (h .items) (λ y. holds q y && bit row y)
-  unfolding meets
-  row-meets q = iff _ _ to from
+  -- what peer j holds in a period inCommon the row exactly if an item of the table is in both
+  row-common : (q : ℕ) → inCommon (heldOf (contents s) j q) row ≡ any (h .items) (λ y. holds q y && bit row y)
+  unfolding inCommon
+  row-common q = iff _ _ to from
     where
       to : any 64 (λ y. bit (heldOf (contents s) j q) y && bit row y) ≡ true → any (h .items) (λ y. holds q y && bit row y) ≡ true
       to e =
@@ -75,6 +75,6 @@ module _ (h : Head) (s : List ℕ) (R : Ready h s) (row j : ℕ) where
           let l : y < 64 = omega (arith, f .1, R .room .items) in
           any-at (λ y. bit (heldOf (contents s) j q) y && bit row y) y 64 l (and-i _ _ (held-bit q y l ∙ and-l (holds q y) _ (f .2)) (and-r (holds q y) _ (f .2)))
 
-  pub clash-meets : (x : ℕ) {r : Bool} → r ≡ any (h .periods) (holdsOf (contents s) row j) → r ≡ clashing (tableOf h (inRow row)) (stateOf (contents s) .held j) x
+  pub clash-common : (x : ℕ) {r : Bool} → r ≡ any (h .periods) (holdsOf (contents s) row j) → r ≡ clashing (tableOf h (inRow row)) (stateOf (contents s) .held j) x
   unfolding clashing holdsOf
-  clash-meets x e = e ∙ any-ext (h .periods) (λ q. meets (heldOf (contents s) j q) row) (λ q. any (h .items) (λ y. holds q y && bit row y)) (λ q l. row-meets q)
+  clash-common x e = e ∙ any-ext (h .periods) (λ q. inCommon (heldOf (contents s) j q) row) (λ q. any (h .items) (λ y. holds q y && bit row y)) (λ q l. row-common q)

@@ -1,1 +1,1 @@
-pub mod Meet
+pub mod Common

@@ -5,13 +5,13 @@ ghost use Rattle.rules.specs.Table.{clashing};
 ghost use Rattle.state.specs.Contents.{contents, Canon};
 ghost use Rattle.view.specs.View.{inRow, tableOf, stateOf};
 ghost use Rattle.view.specs.Ready.{Ready};
-ghost use Rattle.guard.specs.Meet.{meets, holdsOf};
+ghost use Rattle.guard.specs.Common.{inCommon, holdsOf};
 use sets::held_in;
 use view::Head;
 
 // Whether two sets of items have an item in common.
 fn sets_meet(a: u64, b: u64) -> bool
-    ensures { λ r. ⌜ r ≡ meets a b ⌝ }
+    ensures { λ r. ⌜ r ≡ inCommon a b ⌝ }
 {
     a & b != 0
 }

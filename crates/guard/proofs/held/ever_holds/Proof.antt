@@ -7,7 +7,7 @@ use borrow.Author.Needs.{needs}
 use Rattle.base.specs.Below.{any}
 use Rattle.base.proofs.Below.{any-none, any-more, any-at, any-end}
 use Rattle.state.specs.Contents.{contents}
-use Rattle.guard.specs.Meet.{holdsOf}
+use Rattle.guard.specs.Common.{holdsOf}
 use Rattle.guard.proofs.held.ever_holds.Statement.{statement}
 use Rattle.guard.proofs.held.ever_holds.Tie as tie
 

@@ -1,5 +1,5 @@
--- By `clash-meets`.
-use Rattle.guard.proofs.Rows.{clash-meets}
+-- By `clash-common`.
+use Rattle.guard.proofs.Rows.{clash-common}
 use borrow.Author.Needs.{needs}
 use Rattle.guard.proofs.held.holds_clash.Statement.{statement}
 use Rattle.guard.proofs.held.holds_clash.Tie as tie
@@ -8,7 +8,7 @@ ever-holds-requires : tie.Need-ever-holds-requires
 ever-holds-requires c κs = search needs
 
 returns : tie.Need-returns
-returns c = search clash-meets
+returns c = search clash-common
 
 pub holds-clash-spec : {M : Type 1} → statement M
 holds-clash-spec = tie.close (tie.spec ever-holds-requires returns)

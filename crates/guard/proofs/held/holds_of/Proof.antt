@@ -1,4 +1,4 @@
-use Rattle.guard.specs.Meet.{holdsOf}
+use Rattle.guard.specs.Common.{holdsOf}
 use borrow.Author.Needs.{needs}
 use Rattle.guard.proofs.held.holds_of.Statement.{statement}
 use Rattle.guard.proofs.held.holds_of.Tie as tie

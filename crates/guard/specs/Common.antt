@@ -6,9 +6,9 @@ use Rattle.base.specs.Bits.{bit}
 use Rattle.state.specs.Contents.{Contents}
 use Rattle.sets.specs.Sets.{heldOf}
 
-unfoldable pub meets : ℕ → ℕ → Bool
-meets a b = any 64 (λ y. bit a y && bit b y)
+unfoldable pub inCommon : ℕ → ℕ → Bool
+inCommon a b = any 64 (λ y. bit a y && bit b y)
 
 -- peer j holds, in period q, an item of the row
 unfoldable pub holdsOf : Contents → ℕ → ℕ → ℕ → Bool
-holdsOf c row j q = meets (heldOf c j q) row
+holdsOf c row j q = inCommon (heldOf c j q) row
