@@ -1,28 +1,17 @@
--- A line of the state where there is something to show, and nothing where there is not.
-use Prim.Native.Nat.{ℕ, _≤_, _<_}
+-- The lines of the bag: of its entries only boards are shown.
+use Prim.Native.Nat.{ℕ}
 use mathlib.Core.List.{List}
 use mathlib.Core.Path.{_≡_, subst}
 use lib.ListN.{length}
-use borrow.Author.Tests.{lt-ltb, le-ltb}
 use Rattle.rules.specs.declared.Entry.{Entry}
 use Rattle.rules.specs.declared.Entry.the-variants.{Hash, Backing, Board}
 use Rattle.rules.specs.Bag.{entryAt}
 use Rattle.state.specs.Contents.{Contents}
 use Rattle.view.specs.declared.Head.{Head}
-use Rattle.sets.specs.Sets.{signerCount}
 use Rattle.text.specs.Wrote.{Wrote, each}
 use Rattle.text.proofs.Writing.{none}
-use Rattle.report.specs.Lines.{dbLine, boardLine}
-use Rattle.report.specs.State.{dbItem, entryLine, bagLine, boardLines}
-
-module _ (c : Contents) (j p x : ℕ) {n : ℕ} (counted : n ≡ signerCount c j p x) {l : List ℕ} {a : ℕ} where
-  pub some-signers : {l₁ : List ℕ} {a₁ : ℕ} → 0 < n → Wrote l a (dbLine j p x n) l₁ a₁ → Wrote l a (dbItem c j p x) l₁ a₁
-  unfolding dbItem
-  some-signers some w = rw (← counted, lt-ltb 0 n some) w
-
-  pub no-signers : n ≤ 0 → Wrote l a (dbItem c j p x) l a
-  unfolding dbItem
-  no-signers few = rw (← counted, le-ltb 0 n few) none
+use Rattle.report.specs.Lines.{boardLine}
+use Rattle.report.specs.State.{entryLine, bagLine, boardLines}
 
 -- an entry of the bag is the one that a match found
 module _ (h : Head) {l : List ℕ} {a : ℕ} (x : Entry) (k p B : ℕ) where

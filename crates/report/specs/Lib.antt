@@ -1,3 +1,4 @@
 pub mod Words
 pub mod Lines
 pub mod State
+pub mod Rows

@@ -1,28 +1,31 @@
 // What the report shows of a state: databases, receipts, boards, and its last line.
+ghost use mathlib.Core.Path.{_≡_};
 ghost use Prim.Native.Nat.{_+_, _<_, _≤_};
 ghost use Rattle.rules.specs.Bag.{entryAt};
 ghost use Rattle.state.specs.Contents.{contents, Canon};
 ghost use Rattle.text.specs.Wrote.{Wrote};
-ghost use Rattle.report.specs.State.{dbItem, dbPeriod, dbPeer, dbLines, receiptItem, receiptPeriod, receiptLines};
+ghost use Rattle.report.specs.Rows.{setLine, rowLines, rowIn};
+ghost use Rattle.report.specs.State.{dbPeer, dbLines, receiptItem, receiptPeriod, receiptLines};
 ghost use Rattle.report.specs.State.{entryLine, bagLine, boardLines, stateLines};
 use crate::lines::put_board;
 use crate::lines::put_db;
 use crate::lines::put_receipt;
 use bag::bag_len;
 use bag::entry_at;
+use database::database;
 use rules::Entry;
-use sets::signer_count;
+use rules::Signers;
 use state::Fact;
 use state::facts::is_there;
+use state::layout;
 use text::put_word;
 use view::Head;
 
 // The line of item x, if its set is not empty.
-fn put_db_item(out: &mut [u8], at: usize, s: &[u8], j: u8, p: u8, x: u8) -> usize
-    requires { ⌜ Canon (now s) ⌝ }
-    ensures { λ to. ⌜ Wrote (now (out .entry)) at (dbItem (contents (now (s .entry))) j p x) (now (out .exit)) to ⌝ }
+fn put_db_item(out: &mut [u8], at: usize, set: Signers, j: u8, p: u8, x: u8) -> usize
+    ensures { λ to. ⌜ Wrote (now (out .entry)) at (setLine j p x set) (now (out .exit)) to ⌝ }
 {
-    let signers = signer_count(s, j, p, x);
+    let signers = u32::count_ones(set.0 as u32);
     if 0 < signers {
         return put_db(out, at, j, p, x, signers);
     }
@@ -30,28 +33,41 @@ fn put_db_item(out: &mut [u8], at: usize, s: &[u8], j: u8, p: u8, x: u8) -> usiz
 }
 
 // One period of a peer's database.
-fn put_db_period(out: &mut [u8], at: usize, s: &[u8], h: Head, j: u8, p: u8) -> usize
-    requires { ⌜ Canon (now s) ⌝ }
-    ensures { λ to. ⌜ Wrote (now (out .entry)) at (dbPeriod h (contents (now (s .entry))) j p) (now (out .exit)) to ⌝ }
+fn put_db_period(out: &mut [u8], at: usize, sets: [Signers; 64], h: Head, j: u8, p: u8) -> usize
+    requires { ⌜ h .items ≤ 64 ⌝ }
+    ensures { λ to. ⌜ Wrote (now (out .entry)) at (rowLines h sets j p) (now (out .exit)) to ⌝ }
 {
     let mut to = at;
     let mut x: u8 = 0;
     while x < h.items {
-        to = put_db_item(out, to, s, j, p, x);
+        to = put_db_item(out, to, sets[x as usize], j, p, x);
         x += 1;
     }
     to
 }
 
+// The sets of period p; those of a period for which there is no room are empty.
+fn row_in(d: [[Signers; 64]; 8], p: u8) -> [Signers; 64]
+    ensures { λ r. ⌜ r ≡ rowIn d p ⌝ }
+{
+    let i = p as usize;
+    if i < layout::PERIODS {
+        return d[i];
+    }
+    [Signers(0); 64]
+}
+
 // The database of peer k + 1.
 fn put_db_peer(out: &mut [u8], at: usize, s: &[u8], h: Head, k: u8) -> usize
-    requires { ⌜ Canon (now s) × (k < 16) ⌝ }
+    requires { ⌜ Canon (now s) × (k < 16) × (h .items ≤ 64) ⌝ }
     ensures { λ to. ⌜ Wrote (now (out .entry)) at (dbPeer h (contents (now (s .entry))) k) (now (out .exit)) to ⌝ }
 {
+    let j = k + 1;
+    let d = database(s, j);
     let mut to = at;
     let mut p: u8 = 0;
     while p < h.periods {
-        to = put_db_period(out, to, s, h, k + 1, p);
+        to = put_db_period(out, to, row_in(d, p), h, j, p);
         p += 1;
     }
     to
@@ -59,7 +75,7 @@ fn put_db_peer(out: &mut [u8], at: usize, s: &[u8], h: Head, k: u8) -> usize
 
 // The databases of all peers.
 fn put_dbs(out: &mut [u8], at: usize, s: &[u8], h: Head) -> usize
-    requires { ⌜ Canon (now s) × (h .n ≤ 16) ⌝ }
+    requires { ⌜ Canon (now s) × (h .n ≤ 16) × (h .items ≤ 64) ⌝ }
     ensures { λ to. ⌜ Wrote (now (out .entry)) at (dbLines h (contents (now (s .entry)))) (now (out .exit)) to ⌝ }
 {
     let mut to = at;

@@ -5,20 +5,27 @@ use Rattle.state.specs.Contents.{contents}
 use Rattle.text.specs.Wrote.{Wrote, each}
 use Rattle.text.proofs.Writing.{each-none, each-more, each-all}
 use Rattle.report.specs.State.{dbPeer, dbPeriod}
+use Rattle.report.proofs.Rows.{period-shown}
 use Rattle.report.proofs.shown.put_db_peer.Statement.{statement}
 use Rattle.report.proofs.shown.put_db_peer.Tie as tie
 
 abbrev Inv-loop : tie.InvT-loop
-Inv-loop out₀ at s h k to₀ p₀ out to p = (p ≤ h .periods) × Wrote out₀ at (each (dbPeriod h (contents s) (k + 1)) p) out to
+Inv-loop out₀ at s h k j d to₀ p₀ out to p = (p ≤ h .periods) × Wrote out₀ at (each (dbPeriod h (contents s) (k + 1)) p) out to
 
 abbrev μ-loop : tie.MeasureT-loop
-μ-loop out₀ at s h k to₀ p₀ out to p = h .periods - p
+μ-loop out₀ at s h k j d to₀ p₀ out to p = h .periods - p
+
+add-j : tie.Need-add-j Inv-loop μ-loop
+add-j c = search needs
+
+database-requires : tie.Need-database-requires Inv-loop μ-loop
+database-requires c κs = search needs
 
 loop-holds : tie.Need-loop-holds Inv-loop μ-loop
 loop-holds c = (search needs, each-none _)
 
-add-put-db-period : tie.Need-add-put-db-period Inv-loop μ-loop
-add-put-db-period c = search needs
+row-in-requires : tie.Need-row-in-requires Inv-loop μ-loop
+row-in-requires c κs = search needs
 
 put-db-period-requires : tie.Need-put-db-period-requires Inv-loop μ-loop
 put-db-period-requires c κs = search needs
@@ -30,7 +37,7 @@ loop-less : tie.Need-loop-less Inv-loop μ-loop
 loop-less c = search needs
 
 loop-again : tie.Need-loop-again Inv-loop μ-loop
-loop-again c = (search needs, search each-more depth 6)
+loop-again c = (search needs, search (each-more, period-shown) depth 6)
 
 same-length : tie.Need-same-length Inv-loop μ-loop
 same-length c = c .before .before .loop .inv .1 .long
@@ -47,8 +54,10 @@ put-db-peer-spec =
     (tie.spec
     Inv-loop
     μ-loop
+    add-j
+    database-requires
     loop-holds
-    add-put-db-period
+    row-in-requires
     put-db-period-requires
     add-p
     loop-less

@@ -1,21 +1,29 @@
 -- The items passed are written.
 use Prim.Native.Nat.{_≤_, _-_}
 use borrow.Author.Needs.{needs}
-use Rattle.state.specs.Contents.{contents}
 use Rattle.text.specs.Wrote.{Wrote, each}
 use Rattle.text.proofs.Writing.{each-none, each-more, each-all}
-use Rattle.report.specs.State.{dbItem, dbPeriod}
+use Rattle.report.specs.Rows.{rowItem, rowLines}
 use Rattle.report.proofs.shown.put_db_period.Statement.{statement}
 use Rattle.report.proofs.shown.put_db_period.Tie as tie
 
 abbrev Inv-loop : tie.InvT-loop
-Inv-loop out₀ at s h j p to₀ x₀ out to x = (x ≤ h .items) × Wrote out₀ at (each (dbItem (contents s) j p) x) out to
+Inv-loop out₀ at h j p sets to₀ x₀ out to x = (x ≤ h .items) × Wrote out₀ at (each (rowItem sets j p) x) out to
 
 abbrev μ-loop : tie.MeasureT-loop
-μ-loop out₀ at s h j p to₀ x₀ out to x = h .items - x
+μ-loop out₀ at h j p sets to₀ x₀ out to x = h .items - x
 
 loop-holds : tie.Need-loop-holds Inv-loop μ-loop
 loop-holds c = (search needs, each-none _)
+
+cast-put-db-item : tie.Need-cast-put-db-item Inv-loop μ-loop
+cast-put-db-item c = search needs
+
+mul-put-db-item : tie.Need-mul-put-db-item Inv-loop μ-loop
+mul-put-db-item c = search needs
+
+array-copy-out-put-db-item : tie.Need-array-copy-out-put-db-item Inv-loop μ-loop
+array-copy-out-put-db-item c = search needs
 
 put-db-item-requires : tie.Need-put-db-item-requires Inv-loop μ-loop
 put-db-item-requires c κs = search needs
@@ -27,13 +35,14 @@ loop-less : tie.Need-loop-less Inv-loop μ-loop
 loop-less c = search needs
 
 loop-again : tie.Need-loop-again Inv-loop μ-loop
+unfolding rowItem
 loop-again c = (search needs, search each-more depth 6)
 
 same-length : tie.Need-same-length Inv-loop μ-loop
 same-length c = c .before .before .loop .inv .1 .long
 
 returns : tie.Need-returns Inv-loop μ-loop
-unfolding dbPeriod
+unfolding rowLines
 returns c =
     let done = c .before .before .loop .inv in
     each-all _ _ _ (done .0) (c .if1 .left) (done .1)
@@ -45,6 +54,9 @@ put-db-period-spec =
     Inv-loop
     μ-loop
     loop-holds
+    cast-put-db-item
+    mul-put-db-item
+    array-copy-out-put-db-item
     put-db-item-requires
     add-x
     loop-less
