@@ -2,12 +2,12 @@
 use Prim.Native.Nat.{ℕ, _<_}
 use mathlib.Core.Bool.{Bool, true, false, not}
 use mathlib.Core.List.{List, [], _∷_}
-use mathlib.Core.Path.{_≡_, refl, sym, _∙_, subst}
+use mathlib.Core.Path.{_≡_, refl, _∙_, subst}
 use mathlib.Core.Logic.{_⊎_, inl, inr}
 use lib.Dec.{eqb, ltb}
 use borrow.Author.Tests.{eqb-true}
 use Rattle.base.proofs.Truth.{either}
-use Rattle.base.proofs.Sets.{old1, old3, new3, grow3}
+use Rattle.base.proofs.Sets.{old1, old3, new3, grow-row}
 use Rattle.rules.specs.declared.Step.{Step}
 use Rattle.rules.specs.declared.Step.the-variants.{Post, Hand, Sign, Take, Share, Receipt, Close, Fetch, SendHash, Hear, Back, Publish, FalseSignature, FalseShare, FalseHash, FalseBacking, Down, Up}
 use Rattle.rules.specs.Table.{Table}
@@ -34,9 +34,8 @@ module _ (T : Table) (j p x : ℕ) (sy : (y : ℕ) → T .clash x y ≡ T .clash
   hand-settled s I k y c = record {
     is-posted = I .is-posted;
     is-held = old3 k (s .current k) y (s .held) j p x (I .is-held);
-    apart = λ q z l m h. grow3 {P = λ i q z. i ≡ j → q < T .periods → z < T .items → T .clash x z ≡ false} k (s .current k) y (s .held)
-        (λ e l m. sy y ∙ test-apart T (s .held k) y (search) p x in-P in-m (subst (λ (i : ℕ). s .held i p x ≡ true) (sym e) (I .is-held)))
-        (λ i q z h e l m. I .apart q z l m (subst (λ (i : ℕ). s .held i q z ≡ true) e h)) j q z h refl l m;
+    apart = λ q z l m h. grow-row {P = λ q z. q < T .periods → z < T .items → T .clash x z ≡ false} k (s .current k) y (s .held) j
+        (λ e l m. sy y ∙ test-apart T (s .held k) y (search) p x in-P in-m (subst (λ (i : ℕ). s .held i p x ≡ true) e (I .is-held))) (λ q z h l m. I .apart q z l m h) q z h l m;
   }
 
   step-settled : (s : State) → Now s → (st : Step) → Clear T s st → Now (rule T s st .effect)
@@ -87,8 +86,8 @@ module _ (T : Table) (s : State) (j x : ℕ) (ir : T .clash x x ≡ false) (take
       let c = clear in record {
         is-posted = search judged;
         is-held = new3 j (s .current j) x (s .held);
-        apart = λ q z l m h. grow3 {P = λ i q z. i ≡ j → q < T .periods → z < T .items → T .clash x z ≡ false} j (s .current j) x (s .held)
-            (λ e l m. ir) (λ i q z h e l m. test-apart T (s .held j) x (search) q z l m (subst (λ (i : ℕ). s .held i q z ≡ true) e h)) j q z h refl l m;
+        apart = λ q z l m h. grow-row {P = λ q z. q < T .periods → z < T .items → T .clash x z ≡ false} j (s .current j) x (s .held) j
+            (λ e l m. ir) (λ q z h l m. test-apart T (s .held j) x (search) q z l m h) q z h l m;
       }
 
   -- where x is settled for a peer that is up and in the period, a hand answers 0 and changes nothing

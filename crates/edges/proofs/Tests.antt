@@ -1,7 +1,7 @@
 -- Rows of refusals, test by test: which number a row gives, and which it does not.
 use Prim.Native.Nat.{ℕ, _<_, _≤_}
 use native.Mathlib.Omega.{arith}
-use mathlib.Core.Bool.{Bool, true, false, cond, _||_, not}
+use mathlib.Core.Bool.{Bool, true, false, cond, not}
 use mathlib.Core.List.{[], _∷_}
 use mathlib.Core.Path.{_≡_, refl, sym}
 use mathlib.Core.Logic.{_⊎_, inl, inr}
@@ -10,6 +10,7 @@ use borrow.Author.Tests.{ne-eqb, eq-eqb, le-ltb, lt-ltb, lt-leb, le-leb}
 use Rattle.base.specs.Refusals.{Refusals, first}
 use Rattle.base.proofs.Truth.{split, either}
 use Rattle.rules.specs.Table.{Table}
+use Rattle.rules.specs.Rules.{noPeer}
 use Rattle.rules.specs.Valid.{Peer}
 
 -- a test that holds gives its number, one that does not is passed, and the end gives 0
@@ -28,7 +29,7 @@ ends = refl
 
 -- the tests that are passed
 
-pub is-peer : (T : Table) (j : ℕ) → Peer T j → eqb j 0 || ltb (T .n) j ≡ false
+pub is-peer : (T : Table) (j : ℕ) → Peer T j → noPeer (T .n) j ≡ false
 is-peer T j h = rw (ne-eqb j 0 (omega arith), le-ltb (T .n) j (h .1))
 
 pub is-below : (a b : ℕ) → a < b → not (ltb a b) ≡ false
