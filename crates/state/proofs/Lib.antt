@@ -1,5 +1,6 @@
 pub mod Tab
 pub mod Ranges
+mod Arms
 pub mod Places
 pub mod Slots
 pub mod Entries

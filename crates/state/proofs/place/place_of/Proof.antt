@@ -1,9 +1,7 @@
 -- Each arm is the clause of `place` for its kind; `Within` gives each call what it asks.
 use native.Mathlib.Omega.{arith}
-use mathlib.Core.Path.{ap, subst}
-use Rattle.state.specs.Facts.{Within}
-use Rattle.state.specs.Places.{place}
 use borrow.Author.Needs.{needs}
+use Rattle.state.proofs.Arms.{room-found, place-found}
 use Rattle.state.proofs.place.place_of.Statement.{statement}
 use Rattle.state.proofs.place.place_of.Tie as tie
 
@@ -26,10 +24,10 @@ mul-result-2 : tie.Need-mul-result-2
 mul-result-2 c = search needs
 
 cell-of-requires : tie.Need-cell-of-requires
-cell-of-requires c κs = subst Within (c .before .f2 .given .1) (c .before .before .before .pre) .1
+cell-of-requires c κs = room-found _ _ (c .before .f2 .given .1) (search needs) .1
 
 peer-bit-requires : tie.Need-peer-bit-requires
-peer-bit-requires c κs = (omega (arith, c .cell-of .ensures), subst Within (c .before .before .f2 .given .1) (c .before .before .before .before .pre) .0)
+peer-bit-requires c κs = (omega arith, room-found _ _ (c .before .before .f2 .given .1) (search needs) .0)
 
 add-result-2 : tie.Need-add-result-2
 add-result-2 c = search needs
@@ -41,10 +39,10 @@ mul-result-3 : tie.Need-mul-result-3
 mul-result-3 c = search needs
 
 cell-of-requires-2 : tie.Need-cell-of-requires-2
-cell-of-requires-2 c κs = subst Within (c .before .f3 .given .1) (c .before .before .before .pre) .1
+cell-of-requires-2 c κs = room-found _ _ (c .before .f3 .given .1) (search needs) .1
 
 peer-bit-requires-2 : tie.Need-peer-bit-requires-2
-peer-bit-requires-2 c κs = (omega (arith, c .cell-of2 .ensures), subst Within (c .before .before .f3 .given .1) (c .before .before .before .before .pre) .0)
+peer-bit-requires-2 c κs = (omega arith, room-found _ _ (c .before .before .f3 .given .1) (search needs) .0)
 
 add-result-3 : tie.Need-add-result-3
 add-result-3 c = search needs
@@ -56,7 +54,7 @@ mul-result-4 : tie.Need-mul-result-4
 mul-result-4 c = search needs
 
 cell-of-requires-3 : tie.Need-cell-of-requires-3
-cell-of-requires-3 c κs = subst Within (c .before .f4 .given .1) (c .before .before .before .pre)
+cell-of-requires-3 c κs = room-found _ _ (c .before .f4 .given .1) (search needs)
 
 add-result-4 : tie.Need-add-result-4
 add-result-4 c = search needs
@@ -68,7 +66,7 @@ mul-result-5 : tie.Need-mul-result-5
 mul-result-5 c = search needs
 
 spot-of-requires : tie.Need-spot-of-requires
-spot-of-requires c κs = subst Within (c .before .f5 .given .1) (c .before .before .before .pre)
+spot-of-requires c κs = room-found _ _ (c .before .f5 .given .1) (search needs)
 
 add-result-5 : tie.Need-add-result-5
 add-result-5 c = search needs
@@ -80,10 +78,10 @@ mul-result-6 : tie.Need-mul-result-6
 mul-result-6 c = search needs
 
 spot-of-requires-2 : tie.Need-spot-of-requires-2
-spot-of-requires-2 c κs = let w = subst Within (c .before .f6 .given .1) (c .before .before .before .pre) in (w .0, w .1 .1)
+spot-of-requires-2 c κs = let w = room-found _ _ (c .before .f6 .given .1) (search needs) in (w .0, w .1 .1)
 
 peer-bit-requires-3 : tie.Need-peer-bit-requires-3
-peer-bit-requires-3 c κs = (omega (arith, c .spot-of2 .ensures), subst Within (c .before .before .f6 .given .1) (c .before .before .before .before .pre) .1 .0)
+peer-bit-requires-3 c κs = (omega arith, room-found _ _ (c .before .before .f6 .given .1) (search needs) .1 .0)
 
 add-result-6 : tie.Need-add-result-6
 add-result-6 c = search needs
@@ -95,31 +93,31 @@ mul-result-7 : tie.Need-mul-result-7
 mul-result-7 c = search needs
 
 heard-by-requires : tie.Need-heard-by-requires
-heard-by-requires c κs = subst Within (c .before .f7 .given .1) (c .before .before .before .pre)
+heard-by-requires c κs = room-found _ _ (c .before .f7 .given .1) (search needs)
 
 add-result-7 : tie.Need-add-result-7
 add-result-7 c = search needs
 
 returns : tie.Need-returns
-returns c = omega (arith, c .wide .ensures, ap place (c .before .before .f .given .1))
+returns c = place-found _ _ _ (c .before .before .f .given .1) (omega arith)
 
 returns-2 : tie.Need-returns-2
-returns-2 c = omega (arith, c .peer-bit .ensures, c .before .cell-of .ensures, ap place (c .before .before .before .f2 .given .1))
+returns-2 c = place-found _ _ _ (c .before .before .before .f2 .given .1) (omega arith)
 
 returns-3 : tie.Need-returns-3
-returns-3 c = omega (arith, c .peer-bit2 .ensures, c .before .cell-of2 .ensures, ap place (c .before .before .before .f3 .given .1))
+returns-3 c = place-found _ _ _ (c .before .before .before .f3 .given .1) (omega arith)
 
 returns-4 : tie.Need-returns-4
-returns-4 c = omega (arith, c .cell-of3 .ensures, ap place (c .before .before .f4 .given .1))
+returns-4 c = place-found _ _ _ (c .before .before .f4 .given .1) (omega arith)
 
 returns-5 : tie.Need-returns-5
-returns-5 c = omega (arith, c .spot-of .ensures, ap place (c .before .before .f5 .given .1))
+returns-5 c = place-found _ _ _ (c .before .before .f5 .given .1) (omega arith)
 
 returns-6 : tie.Need-returns-6
-returns-6 c = omega (arith, c .peer-bit3 .ensures, c .before .spot-of2 .ensures, ap place (c .before .before .before .f6 .given .1))
+returns-6 c = place-found _ _ _ (c .before .before .before .f6 .given .1) (omega arith)
 
 returns-7 : tie.Need-returns-7
-returns-7 c = omega (arith, c .heard-by .ensures, ap place (c .before .before .f7 .given .1))
+returns-7 c = place-found _ _ _ (c .before .before .f7 .given .1) (omega arith)
 
 pub place-of-spec : {M : Type 1} → statement M
 place-of-spec =

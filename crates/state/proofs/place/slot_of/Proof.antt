@@ -1,8 +1,9 @@
 -- Each arm is the clause of `slot` for its number.
 use native.Mathlib.Omega.{arith}
 use mathlib.Core.Path.{ap}
-use Rattle.state.specs.Numbers.{peerOf, slot}
 use borrow.Author.Needs.{needs}
+use Rattle.state.specs.Numbers.{peerOf}
+use Rattle.state.proofs.Arms.{slot-found}
 use Rattle.state.proofs.place.slot_of.Statement.{statement}
 use Rattle.state.proofs.place.slot_of.Tie as tie
 
@@ -43,13 +44,13 @@ add-result-3 : tie.Need-add-result-3
 add-result-3 c = search needs
 
 returns : tie.Need-returns
-returns c = omega (arith, c .wide .ensures, ap slot (c .before .before .n .given .1))
+returns c = slot-found _ _ _ (c .before .before .n .given .1) (omega arith)
 
 returns-2 : tie.Need-returns-2
-returns-2 c = omega (arith, c .wide2 .ensures, ap slot (c .before .before .n2 .given .1))
+returns-2 c = slot-found _ _ _ (c .before .before .n2 .given .1) (omega arith)
 
 returns-3 : tie.Need-returns-3
-returns-3 c = omega (arith, c .wide3 .ensures, ap slot (c .before .before .n3 .given .1))
+returns-3 c = slot-found _ _ _ (c .before .before .n3 .given .1) (omega arith)
 
 pub slot-of-spec : {M : Type 1} → statement M
 slot-of-spec =

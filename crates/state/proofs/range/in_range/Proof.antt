@@ -1,6 +1,5 @@
 -- Each arm is the clause of `inRange` for its kind.
-use mathlib.Core.Path.{sym, ap, _∙_}
-use Rattle.state.specs.Facts.{inRange}
+use Rattle.state.proofs.Arms.{range-found}
 use borrow.Author.Needs.{needs}
 use Rattle.state.proofs.range.in_range.Statement.{statement}
 use Rattle.state.proofs.range.in_range.Tie as tie
@@ -48,25 +47,25 @@ is-heard-requires : tie.Need-is-heard-requires
 is-heard-requires c κs = search needs
 
 returns : tie.Need-returns
-returns c = c .is-item .ensures ∙ sym (ap inRange (c .before .before .f .given .1))
+returns c = search range-found
 
 returns-2 : tie.Need-returns-2
-returns-2 c = c .is-spot .ensures ∙ sym (ap inRange (c .before .before .f2 .given .1))
+returns-2 c = search range-found
 
 returns-3 : tie.Need-returns-3
-returns-3 c = c .is-spot2 .ensures ∙ sym (ap inRange (c .before .before .f3 .given .1))
+returns-3 c = search range-found
 
 returns-4 : tie.Need-returns-4
-returns-4 c = c .is-cell .ensures ∙ sym (ap inRange (c .before .before .f4 .given .1))
+returns-4 c = search range-found
 
 returns-5 : tie.Need-returns-5
-returns-5 c = c .is-spot3 .ensures ∙ sym (ap inRange (c .before .before .f5 .given .1))
+returns-5 c = search range-found
 
 returns-6 : tie.Need-returns-6
-returns-6 c = c .is-known .ensures ∙ sym (ap inRange (c .before .before .f6 .given .1))
+returns-6 c = search range-found
 
 returns-7 : tie.Need-returns-7
-returns-7 c = c .is-heard .ensures ∙ sym (ap inRange (c .before .before .f7 .given .1))
+returns-7 c = search range-found
 
 pub in-range-spec : {M : Type 1} → statement M
 in-range-spec =
