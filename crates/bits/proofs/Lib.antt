@@ -1,4 +1,5 @@
 pub mod Row
+mod Below
 pub mod Number
 pub mod Joined
 pub mod Loops

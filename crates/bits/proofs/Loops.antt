@@ -29,10 +29,10 @@ pub load-none : (n : ℕ) (s : List ℕ) (o : ℕ) → 0 ≡ num (n - n) s (o + 
 unfolding num
 load-none n s o = ap (λ (k : ℕ). num k s (o + n)) {x = 0} {y = n - n} (omega arith)
 
-pub load-more : (n i : ℕ) (s : List ℕ) (o v : ℕ) → 0 < i → i ≤ n → v ≡ num (n - i) s (o + i) → v * 256 + byteAt s (o + (i - 1)) ≡ num (n - (i - 1)) s (o + (i - 1))
+pub load-more : (n i : ℕ) (s : List ℕ) (o v x : ℕ) → 0 < i → i ≤ n → v ≡ num (n - i) s (o + i) → x ≡ byteAt s (o + (i - 1)) → v * 256 + x ≡ num (n - (i - 1)) s (o + (i - 1))
 unfolding num
-load-more n i s o v p h e =
-    omega (arith, e, ap (λ (k : ℕ). num (n - i) s k) {x = suc (o + (i - 1))} {y = o + i} (omega arith))
+load-more n i s o v x p h e q =
+    omega (arith, e, q, ap (λ (k : ℕ). num (n - i) s k) {x = suc (o + (i - 1))} {y = o + i} (omega arith))
     ∙ ap (λ (k : ℕ). num k s (o + (i - 1))) {x = suc (n - i)} {y = n - (i - 1)} (omega arith)
 
 -- there is room for one byte more

@@ -1,10 +1,12 @@
 // A slice of bytes as a row of bits, and as numbers of several bytes, low byte first.
-// It uses base's laws of bits, and no other crate.
+// It uses base, for its laws of bits and to make a byte wide, and no other crate.
 ghost use mathlib.Core.Path.{_≡_};
 ghost use Prim.Native.Nat.{_+_, _/_, _^_, _<_, _≤_};
+ghost use lib.Dec.{ltb};
 ghost use lib.ListN.{length};
 ghost use Rattle.bits.specs.Row.{bitAt, putBit, zeros};
 ghost use Rattle.bits.specs.Number.{num, stored, joined};
+use base::wide64;
 
 // Bit a of the row.
 pub fn has(s: &[u8], a: usize) -> bool
@@ -23,6 +25,7 @@ pub fn put(s: &mut [u8], a: usize)
     s[at] = s[at] | 1 << (a % 8);
 }
 
+// A byte as a number of two bytes.
 fn wide16(x: u8) -> u16
     ensures { λ r. ⌜ (r ≡ x) × (r < 256) ⌝ }
 {
@@ -35,12 +38,6 @@ pub fn word(s: &[u8], o: usize) -> u16
     ensures { λ r. ⌜ r ≡ num 2 (now (s .entry)) o ⌝ }
 {
     wide16(s[o]) + 256 * wide16(s[o + 1])
-}
-
-fn wide64(x: u8) -> u64
-    ensures { λ r. ⌜ (r ≡ x) × (r < 256) ⌝ }
-{
-    x as u64
 }
 
 // The number in the n bytes from o on.
@@ -71,6 +68,7 @@ pub fn store(s: &mut [u8], o: usize, n: usize, v: u64)
     }
 }
 
+// A number of two bytes as one of eight.
 fn long(x: u16) -> u64
     ensures { λ r. ⌜ (r ≡ x) × (r < 2 ^ 16) ⌝ }
 {
@@ -84,6 +82,17 @@ pub fn join(s: &mut [u8], o: usize, v: u16)
 {
     let both = word(s, o) | v;
     store(s, o, 2, long(both));
+}
+
+// Whether a number has only bits below m: a board, only items below m.
+pub fn is_below(board: u64, m: u8) -> bool
+    requires { ⌜ m ≤ 64 ⌝ }
+    ensures { λ r. ⌜ r ≡ ltb board (2 ^ m) ⌝ }
+{
+    if m == 64 {
+        return true;
+    }
+    board >> m == 0
 }
 
 // Whether the n bytes from o on are 0. The loop gathers and asks at its end, so that it takes many bytes at a time.

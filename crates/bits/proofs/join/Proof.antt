@@ -17,7 +17,7 @@ same-length : tie.Need-same-length
 same-length c = search needs
 
 returns : tie.Need-returns
-returns c = (join-is _ _ _ _ _ _ (c .before .before .before .before .before .word .ensures) (c .before .before .before .long .ensures .0) (c .before .before .store .ensures), search needs)
+returns c = (search join-is, search needs)
 
 pub join-spec : {M : Type 1} → statement M
 join-spec = tie.close (tie.spec word-requires long-requires store-requires same-length returns)

@@ -1,6 +1,6 @@
 -- From the highest byte down: v is the number in the bytes passed.
-use mathlib.Core.Path.{_≡_, ap, _∙_}
-use Prim.Native.Nat.{ℕ, _+_, _*_, _≤_, _-_}
+use mathlib.Core.Path.{_≡_}
+use Prim.Native.Nat.{_+_, _≤_, _-_}
 use native.Mathlib.Omega.{arith}
 use borrow.Author.Needs.{needs}
 use Rattle.bits.specs.Number.{num}
@@ -42,8 +42,7 @@ loop-less : tie.Need-loop-less Inv-loop μ-loop
 loop-less c = search needs
 
 loop-again : tie.Need-loop-again Inv-loop μ-loop
-loop-again c = let l = c .before .before .before .loop in
-    (search needs, ap (λ (x : ℕ). l .v * 256 + x) (c .wide64 .ensures .0) ∙ load-more _ _ _ _ _ (c .before .before .loop-test .taken) (l .inv .0) (l .inv .1))
+loop-again c = (search needs, search load-more)
 
 returns : tie.Need-returns Inv-loop μ-loop
 returns c = load-end _ _ _ _ _ (c .loop-test .left) (c .before .loop .inv .1)

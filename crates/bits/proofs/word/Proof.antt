@@ -26,7 +26,7 @@ add-result : tie.Need-add-result
 add-result c = search needs
 
 returns : tie.Need-returns
-returns c = num-two _ _ _ _ (c .before .before .wide16 .ensures .0) (c .wide162 .ensures .0)
+returns c = search num-two
 
 pub word-spec : {M : Type 1} → statement M
 word-spec =
