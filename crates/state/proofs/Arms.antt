@@ -4,8 +4,8 @@ use mathlib.Core.Bool.{Bool}
 use mathlib.Core.Path.{_≡_, sym, ap, subst, _∙_}
 use Rattle.state.specs.declared.Fact.{Fact}
 use Rattle.state.specs.declared.Number.{Number}
-use Rattle.state.specs.Facts.{Peer, inRange, Within}
-use Rattle.state.specs.Numbers.{peerOf, slot}
+use Rattle.state.specs.Facts.{inRange, Within}
+use Rattle.state.specs.Numbers.{slot}
 use Rattle.state.specs.Places.{place}
 
 pub range-found : (f g : Fact) (r : Bool) → f ≡ g → r ≡ inRange g → r ≡ inRange f

@@ -43,8 +43,8 @@ module _ (s : List ℕ) (f : Fact) {b : Bool} (e : b ≡ inRange f) where
   pub there-inside : (a : ℕ) → Canon s → b ≡ true → a ≡ place f → a / 8 < length s
   there-inside a c t p = place-inside s f a c (sym e ∙ t) p
 
-  pub there-yes : (a : ℕ) {r : Bool} → b ≡ true → a ≡ place f → r ≡ bitAt s a → r ≡ contents s .has f
-  there-yes a t p r = r ∙ ap (bitAt s) p ∙ has-bit s f (sym e ∙ t)
+  pub there-yes : (a : ℕ) {r : Bool} → b ≡ true → r ≡ bitAt s a → a ≡ place f → r ≡ contents s .has f
+  there-yes a t r p = r ∙ ap (bitAt s) p ∙ has-bit s f (sym e ∙ t)
 
   pub there-no : b ≡ false → false ≡ contents s .has f
   there-no t = sym (has-none s f (sym e ∙ t))
@@ -56,6 +56,10 @@ number-byte s n e = rw e
 pub number-none : (s : List ℕ) (n : Number) → isPeer (peerOf n) ≡ false → contents s .number n ≡ 0
 unfolding contents
 number-none s n e = rw e
+
+-- where a test found no such peer
+pub no-number : (s : List ℕ) (n : Number) {b : Bool} → b ≡ isPeer (peerOf n) → b ≡ false → 0 ≡ contents s .number n
+no-number s n e t = sym (number-none s n (sym e ∙ t))
 
 module _ (t s : List ℕ) where
   pub has-same : ((i : ℕ) → i < openAt → byteAt t i ≡ byteAt s i) → (f : Fact) → contents t .has f ≡ contents s .has f

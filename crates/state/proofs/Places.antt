@@ -46,7 +46,7 @@ at-place a l =
     At : Fact → Type 0
     At f = Within f × (place f ≡ a)
 
-ap₃ : {A B C D : Type 0} (f : A → B → C → D) {a a′ : A} {b b′ : B} {c c′ : C} → a ≡ a′ → b ≡ b′ → c ≡ c′ → f a b c ≡ f a′ b′ c′
+pub ap₃ : {A B C D : Type 0} (f : A → B → C → D) {a a′ : A} {b b′ : B} {c c′ : C} → a ≡ a′ → b ≡ b′ → c ≡ c′ → f a b c ≡ f a′ b′ c′
 ap₃ f p q r = λ i. f (p i) (q i) (r i)
 
 ap₄ : {A B C D E : Type 0} (f : A → B → C → D → E) {a a′ : A} {b b′ : B} {c c′ : C} {d d′ : D} → a ≡ a′ → b ≡ b′ → c ≡ c′ → d ≡ d′ → f a b c d ≡ f a′ b′ c′ d′

@@ -14,7 +14,7 @@ use crate::range::in_range;
 use crate::range::is_heard;
 use crate::range::is_item;
 use crate::range::is_spot;
-use crate::range::wide;
+use base::wide;
 
 // Whether the state has the fact.
 pub fn is_there(s: &[u8], f: Fact) -> bool

@@ -8,6 +8,7 @@ use crate::Number;
 use crate::place::slot_of;
 use crate::range::is_peer;
 
+// A number of a peer for which there is room.
 fn value_of(s: &[u8], n: Number) -> u8
     requires { ⌜ Canon (now s) × Peer (peerOf n) ⌝ }
     ensures { λ r. ⌜ r ≡ contents (now (s .entry)) .number n ⌝ }

@@ -8,10 +8,9 @@ ghost use Rattle.state.specs.Numbers.{peerOf, slot};
 use crate::Fact;
 use crate::Number;
 use crate::layout;
-use crate::range::wide;
+use base::wide;
 
-// Places in the order of period and item, of peer and period, and of peer, period and item.
-
+// The place of a period and an item, in their order.
 pub fn cell_of(p: u8, i: u8) -> usize
     requires { ⌜ Cell p i ⌝ }
     ensures { λ r. ⌜ (r ≡ cell p i) × (r < periods * items) ⌝ }
@@ -19,6 +18,7 @@ pub fn cell_of(p: u8, i: u8) -> usize
     wide(p) * layout::ITEMS + wide(i)
 }
 
+// The place of a peer and a period, in their order.
 pub fn row_of(j: u8, p: u8) -> usize
     requires { ⌜ Row j p ⌝ }
     ensures { λ r. ⌜ (r ≡ row j p) × (r < peers * periods) ⌝ }
@@ -26,6 +26,7 @@ pub fn row_of(j: u8, p: u8) -> usize
     wide(j - 1) * layout::PERIODS + wide(p)
 }
 
+// The place of a peer, a period and an item, in their order.
 pub fn spot_of(j: u8, p: u8, i: u8) -> usize
     requires { ⌜ Spot j p i ⌝ }
     ensures { λ r. ⌜ (r ≡ spot j p i) × (r < peers * (periods * items)) ⌝ }
@@ -41,6 +42,7 @@ pub(crate) fn peer_bit(n: usize, k: u8) -> usize
     n * layout::PEERS + wide(k - 1)
 }
 
+// The place of a peer and the number of an entry, in their order.
 pub(crate) fn heard_by(j: u8, e: u8) -> usize
     requires { ⌜ Peer j × (e < entries) ⌝ }
     ensures { λ r. ⌜ (r ≡ (j - 1) * entries + e) × (r < peers * entries) ⌝ }

@@ -1,19 +1,14 @@
 // Whether the layout has room for a peer, for a period and an item, for a fact.
 ghost use mathlib.Core.Path.{_≡_};
 ghost use mathlib.Core.Bool.{_&&_};
-ghost use Prim.Native.Nat.{_<_};
 ghost use lib.Dec.{ltb};
 ghost use Rattle.state.specs.Layout.{items, entries};
 ghost use Rattle.state.specs.Facts.{isPeer, isCell, isRow, isSpot, inRange};
 use crate::Fact;
 use crate::layout;
+use base::wide;
 
-pub(crate) fn wide(x: u8) -> usize
-    ensures { λ r. ⌜ (r ≡ x) × (r < 256) ⌝ }
-{
-    x as usize
-}
-
+// Whether k is one of the peers for which there is room.
 pub(crate) fn is_peer(k: u8) -> bool
     ensures { λ r. ⌜ r ≡ isPeer k ⌝ }
 {
@@ -23,12 +18,14 @@ pub(crate) fn is_peer(k: u8) -> bool
     wide(k) <= layout::PEERS
 }
 
+// Whether there is room for the item.
 pub(crate) fn is_item(i: u8) -> bool
     ensures { λ r. ⌜ r ≡ ltb i items ⌝ }
 {
     wide(i) < layout::ITEMS
 }
 
+// Whether there is room for the period and the item.
 pub fn is_cell(p: u8, i: u8) -> bool
     ensures { λ r. ⌜ r ≡ isCell p i ⌝ }
 {
@@ -38,6 +35,7 @@ pub fn is_cell(p: u8, i: u8) -> bool
     false
 }
 
+// Whether there is room for the peer and the period.
 pub fn is_row(j: u8, p: u8) -> bool
     ensures { λ r. ⌜ r ≡ isRow j p ⌝ }
 {
@@ -47,6 +45,7 @@ pub fn is_row(j: u8, p: u8) -> bool
     false
 }
 
+// Whether there is room for the peer, the period and the item.
 pub fn is_spot(k: u8, p: u8, i: u8) -> bool
     ensures { λ r. ⌜ r ≡ isSpot k p i ⌝ }
 {
@@ -56,6 +55,7 @@ pub fn is_spot(k: u8, p: u8, i: u8) -> bool
     false
 }
 
+// Whether there is room for the two peers, the period and the item.
 fn is_known(j: u8, p: u8, i: u8, k: u8) -> bool
     ensures { λ r. ⌜ r ≡ (isPeer j && isSpot k p i) ⌝ }
 {
@@ -65,6 +65,7 @@ fn is_known(j: u8, p: u8, i: u8, k: u8) -> bool
     false
 }
 
+// Whether there is room for the peer and the entry.
 pub(crate) fn is_heard(j: u8, e: u8) -> bool
     ensures { λ r. ⌜ r ≡ (isPeer j && ltb e entries) ⌝ }
 {

@@ -16,8 +16,7 @@ same-length : tie.Need-same-length
 same-length c = search needs
 
 returns : tie.Need-returns
-returns c = let a = c .before .before .before .before .before .before in
-    put-done _ _ (a .args .f) _ (a .pre .0) (a .pre .1) (c .before .before .before .place-of .ensures) (c .before .before .put .ensures)
+returns c = search put-done
 
 pub add-fact-spec : {M : Type 1} → statement M
 add-fact-spec = tie.close (tie.spec place-of-requires put-requires same-length returns)

@@ -26,12 +26,10 @@ has-requires : tie.Need-has-requires
 has-requires c κs = search needs
 
 returns : tie.Need-returns
-returns c = let t = c .before .before in
-    let a = t .before .before .before .args in
-    there-yes _ (Heard (a .j) (a .e)) (t .before .is-heard .ensures) _ (t .if1 .taken) (omega (arith, c .before .heard-by .ensures .0)) (c .has .ensures)
+returns c = let t = c .before .before in there-yes _ _ (t .before .is-heard .ensures) _ (t .if1 .taken) (c .has .ensures) (omega arith)
 
 returns-2 : tie.Need-returns-2
-returns-2 c = let a = c .before .before .before .args in there-no _ (Heard (a .j) (a .e)) (c .before .is-heard .ensures) (c .if1 .left)
+returns-2 c = search there-no
 
 pub is-heard-by-spec : {M : Type 1} → statement M
 is-heard-by-spec =

@@ -1,7 +1,6 @@
 -- By `there-yes` and `there-no`: the bit at the place of `Held j p i`.
 use native.Mathlib.Omega.{arith}
 use mathlib.Core.Path.{sym, _∙_}
-use Rattle.state.specs.declared.Fact.the-variants.{Held}
 use Rattle.state.proofs.Ranges.{spot-within}
 use Rattle.state.proofs.Frame.{there-yes, there-no}
 use borrow.Author.Needs.{needs}
@@ -24,12 +23,10 @@ has-requires : tie.Need-has-requires
 has-requires c κs = search needs
 
 returns : tie.Need-returns
-returns c = let t = c .before .before in
-    let a = t .before .before .before .args in
-    there-yes _ (Held (a .j) (a .p) (a .i)) (t .before .is-spot .ensures) _ (t .if1 .taken) (omega (arith, c .before .spot-of .ensures .0)) (c .has .ensures)
+returns c = let t = c .before .before in there-yes _ _ (t .before .is-spot .ensures) _ (t .if1 .taken) (c .has .ensures) (omega arith)
 
 returns-2 : tie.Need-returns-2
-returns-2 c = let a = c .before .before .before .args in there-no _ (Held (a .j) (a .p) (a .i)) (c .before .is-spot .ensures) (c .if1 .left)
+returns-2 c = search there-no
 
 pub is-held-spec : {M : Type 1} → statement M
 is-held-spec =

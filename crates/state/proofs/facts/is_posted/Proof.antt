@@ -1,6 +1,5 @@
 -- By `there-yes` and `there-no`: the bit at the place of `Posted i`.
 use native.Mathlib.Omega.{arith}
-use Rattle.state.specs.declared.Fact.the-variants.{Posted}
 use Rattle.state.proofs.Frame.{there-yes, there-no}
 use borrow.Author.Needs.{needs}
 use Rattle.state.proofs.facts.is_posted.Statement.{statement}
@@ -22,12 +21,10 @@ has-requires : tie.Need-has-requires
 has-requires c κs = search needs
 
 returns : tie.Need-returns
-returns c = let t = c .before .before in
-    let a = t .before .before .before .args in
-    there-yes _ (Posted (a .i)) (t .before .is-item .ensures) _ (t .if1 .taken) (omega (arith, c .before .wide .ensures .0)) (c .has .ensures)
+returns c = let t = c .before .before in there-yes _ _ (t .before .is-item .ensures) _ (t .if1 .taken) (c .has .ensures) (omega arith)
 
 returns-2 : tie.Need-returns-2
-returns-2 c = let a = c .before .before .before .args in there-no _ (Posted (a .i)) (c .before .is-item .ensures) (c .if1 .left)
+returns-2 c = search there-no
 
 pub is-posted-spec : {M : Type 1} → statement M
 is-posted-spec =

@@ -13,15 +13,13 @@ place-of-requires : tie.Need-place-of-requires
 place-of-requires c κs = range-within (c .before .before .before .args .f) (sym (c .before .in-range .ensures) ∙ c .if1 .taken)
 
 has-requires : tie.Need-has-requires
-has-requires c κs = let t = c .before in
-    let a = t .before .before .before in
-    there-inside _ (a .args .f) (t .before .in-range .ensures) _ (a .pre) (t .if1 .taken) (c .place-of .ensures)
+has-requires c κs = search there-inside
 
 returns : tie.Need-returns
-returns c = let t = c .before .before in there-yes _ _ (t .before .in-range .ensures) _ (t .if1 .taken) (c .before .place-of .ensures) (c .has .ensures)
+returns c = search there-yes
 
 returns-2 : tie.Need-returns-2
-returns-2 c = there-no _ _ (c .before .in-range .ensures) (c .if1 .left)
+returns-2 c = search there-no
 
 pub is-there-spec : {M : Type 1} → statement M
 is-there-spec =
