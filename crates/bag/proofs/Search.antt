@@ -1,13 +1,16 @@
 -- Entries read and looked for: what the bytes of the bag say of an entry, there or not.
 use Prim.Native.Nat.{ℕ, _+_, _<_, _≤_}
 use native.Mathlib.Decide.{decLt}
+use native.Mathlib.Nat.{not-suc-le-zero}
 use native.Mathlib.Omega.{arith}
 use mathlib.Core.Bool.{Bool, true, false, _&&_, and-true}
 use mathlib.Core.List.{List}
 use mathlib.Core.Path.{_≡_, refl, sym, ap, ap₂, subst, _∙_}
 use lib.Dec.{eqb}
 use lib.ListN.{length}
+use borrow.Author.Count.{below-more}
 use Rattle.base.specs.Bytes.{byteAt}
+use Rattle.base.proofs.Chain.{differ, agree}
 use Rattle.base.proofs.Truth.{split, is-false, eqb-sym}
 use Rattle.bits.specs.Number.{num}
 use Rattle.bits.proofs.Number.{num-zero}
@@ -52,6 +55,16 @@ read-entry s e board x c b q = q ∙ ap (entryOf (byteAt s (entryStart e)) (byte
 pub entry-past : (s : List ℕ) (e : ℕ) → Canon s → entries ≤ e → noEntry ≡ nth (contents s .bag) e
 entry-past s e c l = sym (nth-none s e (omega (arith, c .counted)))
 
+-- a number that was read, at the head of a row of tests
+
+pub read-differs : (x b y : ℕ) (rest : Bool) → x ≡ b → (x ≡ y → ⊥) → false ≡ (eqb b y && rest)
+read-differs x b y rest p n = differ b y rest (λ e. n (p ∙ e))
+
+pub read-agrees : (x b y : ℕ) (rest v : Bool) → x ≡ b → x ≡ y → v ≡ rest → v ≡ (eqb b y && rest)
+read-agrees x b y rest v p e = agree b y rest v (sym p ∙ e)
+
+pub ruleset by-fields = (read-differs, read-agrees, differ, agree)
+
 -- the four tests on an entry's bytes, in the order in which they are made, are the test for the same entry
 
 swapped : (k s p b : Bool) → s && (b && (p && k)) ≡ k && (s && (p && b))
@@ -88,7 +101,11 @@ entry-is s e x y r c l q h =
     let m : e < count s = omega (arith, bag-length s) in
     h ∙ entry-test s e y c m ∙ ap₂ sameEntry (sym q) (sym (entry-nth s e m))
 
--- the bytes of an entry of the bag are inside
+-- the entries of the bag are at most 256, and the bytes of each are inside
+
+pub entry-few : (s : List ℕ) (e : ℕ) → Canon s → e < length (contents s .bag) → e < entries
+entry-few s e c l = omega (arith, bag-length s, c .counted)
+
 pub entry-inside : (s : List ℕ) (e : ℕ) → Canon s → e < length (contents s .bag) → entryStart e + entrySize ≤ length s
 entry-inside s e c l = omega (arith, bag-length s, c .counted, c .long)
 
@@ -100,10 +117,21 @@ signer-is s e kind p B r c l h =
     let m : e < count s = omega (arith, bag-length s) in
     h ∙ rw (entry-nth s e m, c .settled e m .signer, c .settled e m .kind, ← entry-board s e, ← entry-period s e)
 
--- the search: here it is, or it was at no place
+-- the search: none of the first e entries is x
 
-pub found : (x : Entry) (bag : List Entry) (e : ℕ) → e < length bag → sameEntry x (nth bag e) ≡ true → true ≡ isIn x bag
-found x bag e l q = sym (at-in x bag e l (sym (eq-of-same x (nth bag e) q)))
+pub record Missed (x : Entry) (bag : List Entry) (e : ℕ) : Type 0 where
+  pub other : (k : ℕ) → k < e → sameEntry x (nth bag k) ≡ false
 
-pub not-found : (x : Entry) (bag : List Entry) (n : ℕ) → length bag ≤ n → ((e : ℕ) → e < n → sameEntry x (nth bag e) ≡ false) → false ≡ isIn x bag
-not-found x bag n l q = sym (is-false (isIn x bag) (λ h. let w = in-at x bag h in split (subst (λ (z : Entry). sameEntry x z ≡ true) (sym (w .2)) (same-self x)) (q (w .0) (omega (arith, w .1)))))
+pub missed-none : (x : Entry) (bag : List Entry) → Missed x bag 0
+missed-none x bag = record { other = λ k q. absurd (not-suc-le-zero q) }
+
+-- entry e was compared with x
+module _ (x : Entry) (bag : List Entry) (e : ℕ) {r : Bool} (q : r ≡ sameEntry x (nth bag e)) where
+  pub missed-more : Missed x bag e → r ≡ false → Missed x bag (e + 1)
+  missed-more m t = record { other = below-more _ _ (m .other) (sym q ∙ t) }
+
+  pub found : {n : ℕ} → r ≡ true → n ≡ length bag → e < n → true ≡ isIn x bag
+  found t c l = sym (at-in x bag e (omega arith) (sym (eq-of-same x (nth bag e) (sym q ∙ t))))
+
+pub not-found : (x : Entry) (bag : List Entry) {e n : ℕ} → Missed x bag e → n ≡ length bag → n ≤ e → false ≡ isIn x bag
+not-found x bag m c l = sym (is-false (isIn x bag) (λ h. let w = in-at x bag h in split (subst (λ (z : Entry). sameEntry x z ≡ true) (sym (w .2)) (same-self x)) (m .other (w .0) (omega (arith, w .1)))))

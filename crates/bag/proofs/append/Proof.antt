@@ -26,9 +26,7 @@ same-length : tie.Need-same-length
 same-length c = search needs
 
 returns : tie.Need-returns
-returns c = let e = c .before .before .before .before .before .before in
-    let a = e .before .before .before .before .before in
-    append-done _ _ _ _ _ (a .pre .0) (a .pre .1) (e .before .before .bag-len .ensures .0) (e .enter .ensures) (c .before .before .store .ensures)
+returns c = search append-done
 
 pub append-spec : {M : Type 1} → statement M
 append-spec =

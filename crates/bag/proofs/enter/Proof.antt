@@ -26,19 +26,19 @@ same-length : tie.Need-same-length
 same-length c = search needs
 
 returns : tie.Need-returns
-returns c = enter-is _ _ _ _ _ (c .before .before .before .before .before .x .given .1) (c .before .before .write .ensures)
+returns c = enter-is _ _ _ _ _ (c .before .before .before .before .before .x .given .1) (search needs)
 
 same-length-2 : tie.Need-same-length-2
 same-length-2 c = search needs
 
 returns-2 : tie.Need-returns-2
-returns-2 c = enter-is _ _ _ _ _ (c .before .before .before .before .before .x2 .given .1) (c .before .before .write2 .ensures)
+returns-2 c = enter-is _ _ _ _ _ (c .before .before .before .before .before .x2 .given .1) (search needs)
 
 same-length-3 : tie.Need-same-length-3
 same-length-3 c = search needs
 
 returns-3 : tie.Need-returns-3
-returns-3 c = enter-is _ _ _ _ _ (c .before .before .before .before .before .x3 .given .1) (c .before .before .write3 .ensures)
+returns-3 c = enter-is _ _ _ _ _ (c .before .before .before .before .before .x3 .given .1) (search needs)
 
 pub enter-spec : {M : Type 1} → statement M
 enter-spec =

@@ -5,7 +5,7 @@ use Rattle.bag.proofs.entry_at.Statement.{statement}
 use Rattle.bag.proofs.entry_at.Tie as tie
 
 returns : tie.Need-returns
-returns c = entry-past _ _ (c .before .before .pre) (c .if1 .taken)
+returns c = search entry-past
 
 mul-o : tie.Need-mul-o
 mul-o c = search needs
@@ -38,7 +38,7 @@ entry-of-requires : tie.Need-entry-of-requires
 entry-of-requires c κs = search needs
 
 returns-2 : tie.Need-returns-2
-returns-2 c = read-entry _ _ _ _ (c .before .before .before .before .before .before .before .pre) (c .before .before .before .before .load .ensures) (c .entry-of .ensures)
+returns-2 c = search read-entry
 
 pub entry-at-spec : {M : Type 1} → statement M
 entry-at-spec =

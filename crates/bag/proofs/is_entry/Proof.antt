@@ -1,42 +1,42 @@
 -- By `entry-is`: in a canonical state an entry's bytes are its own.
 use native.Mathlib.Omega.{arith}
-use Rattle.bag.proofs.Search.{entry-is, entry-inside}
+use Rattle.bag.proofs.Search.{entry-is, entry-few, entry-inside}
 use borrow.Author.Needs.{needs}
 use Rattle.bag.proofs.is_entry.Statement.{statement}
 use Rattle.bag.proofs.is_entry.Tie as tie
 
 mul-o : tie.Need-mul-o
-mul-o c = let a = c .before in record { fits = omega (arith, a .pre .0 .long, entry-inside (a .args .s .now) (a .args .e) (a .pre .0) (a .pre .1)) }
+mul-o c = let a = c .before .pre in record { fits = omega (arith, entry-few _ _ (a .0) (a .1)) }
 
 add-o : tie.Need-add-o
-add-o c = let a = c .before in record { fits = omega (arith, a .pre .0 .long, entry-inside (a .args .s .now) (a .args .e) (a .pre .0) (a .pre .1)) }
+add-o c = let a = c .before .pre in record { fits = omega (arith, entry-few _ _ (a .0) (a .1)) }
 
 enum-known-x : tie.Need-enum-known-x
 enum-known-x c = search needs
 
 is-written-requires : tie.Need-is-written-requires
-is-written-requires c κs = let a = c .before .before .before .before in entry-inside _ _ (a .pre .0) (a .pre .1)
+is-written-requires c κs = search entry-inside
 
 enum-known-x-2 : tie.Need-enum-known-x-2
 enum-known-x-2 c = search needs
 
 is-written-requires-2 : tie.Need-is-written-requires-2
-is-written-requires-2 c κs = let a = c .before .before .before .before in entry-inside _ _ (a .pre .0) (a .pre .1)
+is-written-requires-2 c κs = search entry-inside
 
 enum-known-x-3 : tie.Need-enum-known-x-3
 enum-known-x-3 c = search needs
 
 is-written-requires-3 : tie.Need-is-written-requires-3
-is-written-requires-3 c κs = let a = c .before .before .before .before in entry-inside _ _ (a .pre .0) (a .pre .1)
+is-written-requires-3 c κs = search entry-inside
 
 returns : tie.Need-returns
-returns c = entry-is _ _ _ _ _ (c .before .before .before .before .before .pre .0) (c .before .before .before .before .before .pre .1) (c .before .before .x .given .1) (c .is-written .ensures)
+returns c = search entry-is
 
 returns-2 : tie.Need-returns-2
-returns-2 c = entry-is _ _ _ _ _ (c .before .before .before .before .before .pre .0) (c .before .before .before .before .before .pre .1) (c .before .before .x2 .given .1) (c .is-written2 .ensures)
+returns-2 c = search entry-is
 
 returns-3 : tie.Need-returns-3
-returns-3 c = entry-is _ _ _ _ _ (c .before .before .before .before .before .pre .0) (c .before .before .before .before .before .pre .1) (c .before .before .x3 .given .1) (c .is-written3 .ensures)
+returns-3 c = search entry-is
 
 pub is-entry-spec : {M : Type 1} → statement M
 is-entry-spec =

@@ -1,7 +1,7 @@
 -- Each return is settled by the tests before it.
-use borrow.Author.Tests.{eq-eqb, ne-eqb}
 use Rattle.bag.specs.Bag.{isWritten}
 use borrow.Author.Needs.{needs}
+use Rattle.bag.proofs.Search.{by-fields}
 use Rattle.bag.proofs.is_written.Statement.{statement}
 use Rattle.bag.proofs.is_written.Tie as tie
 
@@ -13,7 +13,7 @@ shared-slice-read-if1 c = search needs
 
 returns : tie.Need-returns
 unfolding isWritten
-returns c = rw (ne-eqb _ _ (c .if1 .taken))
+returns c = search by-fields depth 12
 
 add-load : tie.Need-add-load
 add-load c = search needs
@@ -23,7 +23,7 @@ load-requires c κs = search needs
 
 returns-2 : tie.Need-returns-2
 unfolding isWritten
-returns-2 c = rw (eq-eqb _ _ (c .before .before .if1 .left), ← c .before .load .ensures, ne-eqb _ _ (c .if2 .taken))
+returns-2 c = search by-fields depth 12
 
 add-if3 : tie.Need-add-if3
 add-if3 c = search needs
@@ -33,16 +33,14 @@ shared-slice-read-if3 c = search needs
 
 returns-3 : tie.Need-returns-3
 unfolding isWritten
-returns-3 c = let l = c .before .before .before in
-    rw (eq-eqb _ _ (l .before .if1 .left), ← l .load .ensures, eq-eqb _ _ (c .before .before .if2 .left), ne-eqb _ _ (c .if3 .taken))
+returns-3 c = search by-fields depth 12
 
 shared-slice-read-result : tie.Need-shared-slice-read-result
 shared-slice-read-result c = search needs
 
 returns-4 : tie.Need-returns-4
 unfolding isWritten
-returns-4 c = let l = c .before .before .before .before in
-    rw (eq-eqb _ _ (l .before .if1 .left), ← l .load .ensures, eq-eqb _ _ (c .before .before .before .if2 .left), eq-eqb _ _ (c .before .if3 .left))
+returns-4 c = search by-fields depth 12
 
 pub is-written-spec : {M : Type 1} → statement M
 is-written-spec =
