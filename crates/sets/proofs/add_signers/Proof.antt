@@ -20,9 +20,7 @@ same-length : tie.Need-same-length
 same-length c = search needs
 
 returns : tie.Need-returns
-returns c = let r = c .before .before .before in
-    let a = r .before .before .before in
-    join-done _ _ _ _ _ _ (a .args .set) (a .pre .0) (a .pre .1) (r .spot-of .ensures .0) (c .before .before .join .ensures)
+returns c = search join-done
 
 pub add-signers-spec : {M : Type 1} → statement M
 add-signers-spec =

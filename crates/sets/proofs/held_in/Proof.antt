@@ -22,11 +22,10 @@ load-requires : tie.Need-load-requires
 load-requires c κs = search needs
 
 returns : tie.Need-returns
-returns c = let r = c .before .before .before in
-    held-in _ _ _ _ (r .is-row .ensures) (r .before .before .pre) (c .before .before .if1 .taken) _ _ (c .before .row-of .ensures .0) (c .load .ensures)
+returns c = search held-in
 
 returns-2 : tie.Need-returns-2
-returns-2 c = held-out _ _ _ _ (c .before .is-row .ensures) (c .if1 .left)
+returns-2 c = search held-out
 
 pub held-in-spec : {M : Type 1} → statement M
 held-in-spec =

@@ -11,7 +11,7 @@ cast-result : tie.Need-cast-result
 cast-result c = search needs
 
 returns : tie.Need-returns
-returns c = sharers-counted _ _ _ _ (c .before .sharers-of .ensures)
+returns c = search sharers-counted
 
 pub sharer-count-spec : {M : Type 1} → statement M
 sharer-count-spec = tie.close (tie.spec sharers-of-requires cast-result returns)

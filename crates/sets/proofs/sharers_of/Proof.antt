@@ -22,11 +22,10 @@ word-requires : tie.Need-word-requires
 word-requires c κs = search needs
 
 returns : tie.Need-returns
-returns c = let r = c .before .before .before in
-    sharers-in _ _ _ _ (r .is-cell .ensures) (r .before .before .pre) (c .before .before .if1 .taken) _ _ (c .before .cell-of .ensures .0) (c .word .ensures)
+returns c = search sharers-in
 
 returns-2 : tie.Need-returns-2
-returns-2 c = sharers-out _ _ _ _ (c .before .is-cell .ensures) (c .if1 .left)
+returns-2 c = search sharers-out
 
 pub sharers-of-spec : {M : Type 1} → statement M
 sharers-of-spec =

@@ -11,7 +11,7 @@ cast-result : tie.Need-cast-result
 cast-result c = search needs
 
 returns : tie.Need-returns
-returns c = signers-counted _ _ _ _ _ (c .before .signers-of .ensures)
+returns c = search signers-counted
 
 pub signer-count-spec : {M : Type 1} → statement M
 signer-count-spec = tie.close (tie.spec signers-of-requires cast-result returns)

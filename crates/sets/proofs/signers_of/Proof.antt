@@ -22,11 +22,10 @@ word-requires : tie.Need-word-requires
 word-requires c κs = search needs
 
 returns : tie.Need-returns
-returns c = let r = c .before .before .before in
-    signers-in _ _ _ _ _ (r .is-spot .ensures) (r .before .before .pre) (c .before .before .if1 .taken) _ _ (c .before .spot-of .ensures .0) (c .word .ensures)
+returns c = search signers-in
 
 returns-2 : tie.Need-returns-2
-returns-2 c = signers-out _ _ _ _ _ (c .before .is-spot .ensures) (c .if1 .left)
+returns-2 c = search signers-out
 
 pub signers-of-spec : {M : Type 1} → statement M
 signers-of-spec =
