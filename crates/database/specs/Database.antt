@@ -32,6 +32,6 @@ fetched j other p c = adding (knownTo j p (λ i k. c .has (Known other p i k))) 
 unfoldable pub reaches : Contents → ℕ → ℕ → ℕ → ℕ → Bool
 reaches c j p t i = leb t (signerCount c j p i)
 
--- peer j's board of period p: of the first n items those with at least t signers, as a number
-unfoldable pub periodBoard : Contents → ℕ → ℕ → ℕ → ℕ → ℕ
-periodBoard c j p n t = pack n (reaches c j p t)
+-- peer j's board of period p: of the first m items those with at least t signers, as a number
+unfoldable pub ownBoard : Contents → ℕ → ℕ → ℕ → ℕ → ℕ
+ownBoard c j p m t = pack m (reaches c j p t)

@@ -9,7 +9,7 @@ ghost use Rattle.state.specs.Layout.{items};
 ghost use Rattle.state.specs.Facts.{Row};
 ghost use Rattle.state.specs.Contents.{contents, Canon, Holds, adding};
 ghost use Rattle.sets.specs.Sets.{knownTo};
-ghost use Rattle.database.specs.Database.{rowOf, databaseOf, onRow, fetched, periodBoard};
+ghost use Rattle.database.specs.Database.{rowOf, databaseOf, onRow, fetched, ownBoard};
 use rules::Signers;
 use sets::add_signers;
 use sets::signers_of;
@@ -79,15 +79,15 @@ fn with_item(b: u64, i: u8, yes: bool) -> u64
     if yes { b + (1 << i) } else { b }
 }
 
-// Peer j's board of period p: of the first n items those with at least t signers.
-pub fn board_of(s: &[u8], j: u8, p: u8, n: u8, t: u8) -> u64
-    requires { ⌜ Canon (now s) × (n ≤ items) ⌝ }
-    ensures { λ r. ⌜ r ≡ periodBoard (contents (now (s .entry))) j p n t ⌝ }
+// Peer j's board of period p: of the first m items those with at least t signers.
+pub fn board_of(s: &[u8], j: u8, p: u8, m: u8, t: u8) -> u64
+    requires { ⌜ Canon (now s) × (m ≤ items) ⌝ }
+    ensures { λ r. ⌜ r ≡ ownBoard (contents (now (s .entry))) j p m t ⌝ }
 {
     let sets = row(s, j, p);
     let mut b: u64 = 0;
     let mut i: u8 = 0;
-    while i < n {
+    while i < m {
         b = with_item(b, i, has_signers(sets[i as usize], t));
         i += 1;
     }

@@ -1,7 +1,6 @@
 -- The sets of the items passed are added.
 use Prim.Native.Nat.{_≤_, _-_}
-use native.Mathlib.Omega.{arith}
-use mathlib.Core.Path.{_≡_, refl, _∙_}
+use mathlib.Core.Path.{_≡_, refl}
 use lib.ListN.{length}
 use borrow.Author.Needs.{needs}
 use Rattle.state.specs.Layout.{items}
@@ -19,7 +18,7 @@ abbrev μ-loop : tie.MeasureT-loop
 μ-loop s₀ j p sets i₀ s i = items - i
 
 loop-holds : tie.Need-loop-holds Inv-loop μ-loop
-loop-holds c = (omega arith, (refl, row-none _ _ _ _ (c .before .pre .0)))
+loop-holds c = (search needs, (refl, search row-none))
 
 cast-add-signers : tie.Need-cast-add-signers Inv-loop μ-loop
 cast-add-signers c = search needs
@@ -31,9 +30,7 @@ array-copy-out-add-signers : tie.Need-array-copy-out-add-signers Inv-loop μ-loo
 array-copy-out-add-signers c = search needs
 
 add-signers-requires : tie.Need-add-signers-requires Inv-loop μ-loop
-add-signers-requires c κs = let l = c .before .before .before in
-    let row = l .before .before .pre .1 in
-    (l .loop .inv .1 .1 .canon, (row .0, (row .1, c .before .before .loop-test .taken)))
+add-signers-requires c κs = search needs
 
 add-i : tie.Need-add-i Inv-loop μ-loop
 add-i c = search needs
@@ -42,14 +39,13 @@ loop-less : tie.Need-loop-less Inv-loop μ-loop
 loop-less c = search needs
 
 loop-again : tie.Need-loop-again Inv-loop μ-loop
-loop-again c = let l = c .before .before .before .before .before .before .loop .inv .1 in
-    (omega arith, (c .before .before .add-signers .kept .0 ∙ l .0, row-more _ _ _ _ _ _ _ (l .1) (c .before .before .add-signers .ensures)))
+loop-again c = (search needs, (search needs, search row-more))
 
 same-length : tie.Need-same-length Inv-loop μ-loop
 same-length c = search needs
 
 returns : tie.Need-returns Inv-loop μ-loop
-returns c = let l = c .before .loop .inv in row-end _ _ _ _ _ _ (l .0) (c .loop-test .left) (l .1 .1)
+returns c = search row-end
 
 pub add-row-spec : {M : Type 1} → statement M
 add-row-spec =

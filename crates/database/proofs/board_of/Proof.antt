@@ -1,27 +1,25 @@
 -- The board of the items passed is the number so far.
-use Prim.Native.Nat.{_<_, _≤_, _-_}
-use native.Mathlib.Omega.{arith}
+use Prim.Native.Nat.{_≤_, _-_}
 use mathlib.Core.Path.{_≡_}
 use borrow.Author.Needs.{needs}
 use Rattle.base.specs.Bits.{pack}
-use Rattle.state.specs.Layout.{items}
 use Rattle.state.specs.Contents.{contents}
 use Rattle.database.specs.Database.{reaches}
-use Rattle.database.proofs.Boards.{row-reaches, board-none, board-more, board-lt, board-end}
+use Rattle.database.proofs.Boards.{board-none, board-more, board-lt, board-end}
 use Rattle.database.proofs.board_of.Statement.{statement}
 use Rattle.database.proofs.board_of.Tie as tie
 
 abbrev Inv-loop : tie.InvT-loop
-Inv-loop s j p n t sets b₀ i₀ b i = (i ≤ n) × (b ≡ pack i (reaches (contents s) j p t))
+Inv-loop s j p m t sets b₀ i₀ b i = (i ≤ m) × (b ≡ pack i (reaches (contents s) j p t))
 
 abbrev μ-loop : tie.MeasureT-loop
-μ-loop s j p n t sets b₀ i₀ b i = n - i
+μ-loop s j p m t sets b₀ i₀ b i = m - i
 
 row-requires : tie.Need-row-requires Inv-loop μ-loop
 row-requires c κs = search needs
 
 loop-holds : tie.Need-loop-holds Inv-loop μ-loop
-loop-holds c = (omega arith, board-none _)
+loop-holds c = (search needs, search board-none)
 
 cast-has-signers : tie.Need-cast-has-signers Inv-loop μ-loop
 cast-has-signers c = search needs
@@ -36,9 +34,7 @@ has-signers-requires : tie.Need-has-signers-requires Inv-loop μ-loop
 has-signers-requires c κs = search needs
 
 with-item-requires : tie.Need-with-item-requires Inv-loop μ-loop
-with-item-requires c κs = let t = c .before .before in
-    let l = t .before in
-    (board-lt _ _ _ (l .loop .inv .1), omega (arith, t .loop-test .taken, l .before .before .before .pre .1))
+with-item-requires c κs = (search board-lt, search needs)
 
 add-i : tie.Need-add-i Inv-loop μ-loop
 add-i c = search needs
@@ -47,16 +43,13 @@ loop-less : tie.Need-loop-less Inv-loop μ-loop
 loop-less c = search needs
 
 loop-again : tie.Need-loop-again Inv-loop μ-loop
-loop-again c = let h = c .before in
-    let t = h .before .before in
-    let l = t .before in
-    let a = l .before .before .before in
-    let small : l .loop .i < items = omega (arith, t .loop-test .taken, a .pre .1) in
-    let reached = row-reaches (contents (a .args .s .now)) (a .args .j) (a .args .p) (a .args .t) (l .loop .i) _ _ (l .before .row .ensures) small (h .has-signers .ensures) in
-    (omega arith, board-more _ _ _ _ _ (l .loop .inv .1) reached (c .with-item .ensures))
+loop-again c =
+    let turn = c .before .before .before in
+    let l = turn .before in
+    (search needs, board-more _ _ _ _ _ _ _ _ _ _ (l .before .row .ensures) (search needs) (turn .loop-test .taken) (l .loop .inv .1) (c .before .has-signers .ensures) (c .with-item .ensures))
 
 returns : tie.Need-returns Inv-loop μ-loop
-returns c = let l = c .before .loop .inv in board-end _ _ _ _ _ _ _ (l .0) (c .loop-test .left) (l .1)
+returns c = search board-end
 
 pub board-of-spec : {M : Type 1} → statement M
 board-of-spec =

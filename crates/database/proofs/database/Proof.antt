@@ -40,11 +40,11 @@ loop-less : tie.Need-loop-less Inv-loop μ-loop
 loop-less c = search needs
 
 loop-again : tie.Need-loop-again Inv-loop μ-loop
-loop-again c = let l = c .before .before .loop in (omega arith, filled-more [] periods _ (l .p) (l .d) _ (c .before .loop-test .taken) (c .row .ensures) (l .inv .1))
+loop-again c = (search needs, search filled-more)
 
 returns : tie.Need-returns Inv-loop μ-loop
 unfolding databaseOf
-returns c = let l = c .before .loop in filled-all [] periods _ (l .p) (l .d) (c .loop-test .left) (l .inv .1)
+returns c = search filled-all
 
 pub database-spec : {M : Type 1} → statement M
 database-spec =

@@ -14,9 +14,7 @@ same-length : tie.Need-same-length
 same-length c = search needs
 
 returns : tie.Need-returns
-returns c = let r = c .before .before .before .before in
-    let a = r .before .before .before .args in
-    fetch-done (a .s .now) (a .other) (a .p) _ (a .j) _ (r .row .ensures) (c .before .before .add-row .ensures)
+returns c = search fetch-done
 
 pub fetch-spec : {M : Type 1} → statement M
 fetch-spec = tie.close (tie.spec row-requires add-row-requires same-length returns)
