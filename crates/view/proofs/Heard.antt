@@ -1,5 +1,5 @@
 -- Heard entry numbers and heard hashes: each comes from the other.
-use Prim.Native.Nat.{ℕ, zero, suc, _+_}
+use Prim.Native.Nat.{ℕ, zero, suc, _+_, _≤_}
 use native.Mathlib.Omega.{arith}
 use mathlib.Core.Bool.{Bool, true, _&&_, _||_}
 use mathlib.Core.List.{List, [], _∷_}
@@ -9,7 +9,11 @@ use Rattle.base.proofs.Truth.{false-true, and-i, and-l, and-r, or-l, or-r, or-c
 use Rattle.rules.specs.declared.Entry.{Entry}
 use Rattle.rules.specs.declared.Entry.the-variants.{Hash, Backing, Board}
 use Rattle.rules.specs.Bag.{sameEntry, isIn, isHash, entryAt, signerOf, periodOf, boardOf}
+use Rattle.rules.specs.Table.{Table}
 use Rattle.rules.proofs.Bag.{same-self}
+use Rattle.state.specs.declared.Fact.the-variants.{Heard}
+use Rattle.state.specs.Contents.{Contents}
+use Rattle.view.specs.Good.{Good}
 use Rattle.view.specs.View.{told}
 
 -- a heard hash has a number that was heard, and is in the bag
@@ -40,3 +44,10 @@ number-told H i zero (Hash k p B ∷ bag) h t = or-l _ _ (and-i _ _ (subst (λ (
 number-told H i zero (Backing k p B ∷ bag) h t = false-true t
 number-told H i zero (Board p B ∷ bag) h t = false-true t
 number-told H i (suc e) (a ∷ bag) h t = or-r (H i && sameEntry (Hash (signerOf (entryAt bag e)) (periodOf (entryAt bag e)) (boardOf (entryAt bag e))) a) _ (number-told H (suc i) e bag (subst (λ (x : ℕ). H x ≡ true) {x = i + suc e} {y = suc i + e} (omega arith) h) t)
+
+-- whoever heard a number is a peer of the table
+pub hearer : (T : Table) (c : Contents) → Good T c → (j e : ℕ) → c .has (Heard j e) ≡ true → (1 ≤ j) × (j ≤ T .n)
+hearer T c G j e q =
+    let a = entryAt (c .bag) e in
+    let heard = subst (λ (x : ℕ). c .has (Heard j x) ≡ true) {x = e} {y = 0 + e} (omega arith) q in
+    G .valid .heard j (signerOf a) (periodOf a) (boardOf a) (number-told (λ a. c .has (Heard j a)) 0 e (c .bag) heard (G .sound .hears j e q)) .0

@@ -1,10 +1,9 @@
 -- What is good where some items clash is good whatever clashes: nothing that is asked of contents speaks of it.
 use Prim.Native.Nat.{ℕ}
 use mathlib.Core.Bool.{Bool}
-use Rattle.rules.specs.Valid.{Valid}
 use Rattle.state.specs.Contents.{Contents}
 use Rattle.view.specs.declared.Head.{Head}
-use Rattle.view.specs.View.{tableOf, stateOf}
+use Rattle.view.specs.View.{tableOf}
 use Rattle.view.specs.Good.{Good}
 
 pub good-whatever : (h : Head) (clash : ℕ → ℕ → Bool) (c : Contents) → Good (tableOf h clash) c → (other : ℕ → ℕ → Bool) → Good (tableOf h other) c

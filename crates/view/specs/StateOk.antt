@@ -52,12 +52,13 @@ module _ (h : Head) where
   unfoldable pub factsOk : List ℕ → Bool
   factsOk s = every (8 * openAt) (λ a. not (bitAt s a) || factOk (contents s .bag) (factAt a))
 
-  -- of peer j: p is at most P, c at most p, and the flag 0 or 1; a peer that the table does not have has none of these
+  -- of peer j: p is at most P, c at most p, and the flag d is 0 or 1; a peer that the table does not have has none of these
+  unfoldable pub numbersOk : ℕ → ℕ → ℕ → ℕ → Bool
+  numbersOk j p c d = cond (leb j (h .n)) (leb p (h .periods) && (leb c p && leb d 1)) (eqb (p + c + d) 0)
+
+  -- the three numbers of peer j
   unfoldable pub peerOk : Contents → ℕ → Bool
-  peerOk c j =
-      cond (leb j (h .n))
-      (leb (c .number (OpenOf j)) (h .periods) && (leb (c .number (NextOf j)) (c .number (OpenOf j)) && leb (c .number (DownOf j)) 1))
-      (eqb (c .number (OpenOf j) + c .number (NextOf j) + c .number (DownOf j)) 0)
+  peerOk c j = numbersOk j (c .number (OpenOf j)) (c .number (NextOf j)) (c .number (DownOf j))
 
   -- so it is of each peer for which there is room
   unfoldable pub peersOk : List ℕ → Bool
