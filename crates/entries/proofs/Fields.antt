@@ -1,16 +1,14 @@
 -- Laws of the four numbers of an entry, as the code tests them one after the other.
-use Prim.Native.Nat.{ℕ, _-_, _/_, _^_, _<_, _≤_}
+use Prim.Native.Nat.{ℕ, _^_, _<_, _≤_}
 use native.Mathlib.Decide.{ℕ-discrete}
-use native.Mathlib.Nat.{mod-lt, div-add-mod, div-eq-of-lt}
 use native.Mathlib.Omega.{arith}
 use mathlib.Core.Bool.{Bool, true, false, _&&_, _||_, cond}
 use mathlib.Core.List.{List}
-use mathlib.Core.Path.{_≡_, refl, sym, ap, _∙_}
+use mathlib.Core.Path.{_≡_, refl, ap, _∙_}
 use lib.Dec.{eqb, leb, ltb}
-use lib.Pow.{pow-pos}
-use borrow.Author.Tests.{eqb-true, eq-eqb, ne-eqb, le-leb, lt-leb, lt-ltb, ltb-true}
+use borrow.Author.Tests.{eq-eqb, ne-eqb, le-leb, lt-leb}
 use Rattle.base.specs.Bytes.{between}
-use Rattle.base.proofs.Truth.{iff, eqb-self, or-l, or-r}
+use Rattle.base.proofs.Truth.{eqb-self, or-l, or-r}
 use Rattle.rules.specs.declared.Entry.{Entry}
 use Rattle.state.specs.Layout.{hashKind, backingKind, boardKind}
 use Rattle.rules.specs.Bag.{kindOf, signerOf}
@@ -48,16 +46,6 @@ module _ (n kind signer : ℕ) where
       unfolding signerOk
       signer-left l = rw (ne-eqb kind boardKind other, signed, le-leb 1 signer l)
 
--- a board of the table
-
-pub any-board : (m board : ℕ) → m ≡ 64 → board < 2 ^ 64 → true ≡ ltb board (2 ^ m)
-any-board m board e l = rw e (sym (lt-ltb board (2 ^ 64) l))
-
-pub no-item-above : (m board : ℕ) → eqb (board / 2 ^ m) 0 ≡ ltb board (2 ^ m)
-no-item-above m board = iff _ _
-    (λ e. let z = eqb-true (board / 2 ^ m) 0 e in lt-ltb board (2 ^ m) (rw (← div-add-mod board (2 ^ m), z) (omega (arith, mod-lt board (pow-pos m)))))
-    (λ e. eq-eqb (board / 2 ^ m) 0 (div-eq-of-lt (ltb-true board (2 ^ m) e)))
-
 -- the four numbers of an entry of the table
 module _ (h : Head) (kind signer period board : ℕ) where
   -- the entry that they say, and what the definition asks of it
@@ -84,6 +72,6 @@ module _ (h : Head) (kind signer period board : ℕ) where
       go (no n) (yes e) = rw (e, eqb-self signer)
       go (no n) (no m) = rw (ne-eqb kind 1 n, ne-eqb kind 2 m) (last (eqb kind 3) (eqb signer 0) rest)
 
-pub entry-at : (h : Head) (s : List ℕ) (e board : ℕ) → board ≡ boardAt s e → fourOk h (kindAt s e) (signerAt s e) (periodAt s e) board ≡ entryAtOk h s e
+pub entry-at : (h : Head) (s : List ℕ) (e board : ℕ) (r : Bool) → board ≡ boardAt s e → r ≡ fourOk h (kindAt s e) (signerAt s e) (periodAt s e) board → r ≡ entryAtOk h s e
 unfolding entryAtOk entryAt
-entry-at h s e board q = ap (fourOk h (kindAt s e) (signerAt s e) (periodAt s e)) q ∙ four-entry h (kindAt s e) (signerAt s e) (periodAt s e) (boardAt s e)
+entry-at h s e board r q p = p ∙ ap (fourOk h (kindAt s e) (signerAt s e) (periodAt s e)) q ∙ four-entry h (kindAt s e) (signerAt s e) (periodAt s e) (boardAt s e)

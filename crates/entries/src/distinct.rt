@@ -5,6 +5,7 @@ ghost use lib.ListN.{length};
 ghost use Rattle.base.specs.Below.{any, every};
 ghost use Rattle.state.specs.Layout.{entries, size};
 ghost use Rattle.entries.specs.Numbers.{markOf, markAt, Seen, sameAt, newAt};
+use base::wide64;
 use state::layout::BAG;
 use state::layout::BOARD_IN;
 use state::layout::ENTRY_SIZE;
@@ -12,20 +13,17 @@ use state::layout::ITEM_BYTES;
 use state::layout::PERIOD_IN;
 use state::layout::SIGNER_IN;
 
-// How many marks there are; a prime below, a step that spreads the names, and more than there are signers.
+// How many marks there are.
 const MARKS: u64 = 32768;
 
+// A prime below that: a board counts for its mark by what is left when it is divided by this.
 const MARK_PRIME: u64 = 32749;
 
+// How far the marks of two names lie apart that differ by 1; the name is the number made of kind, signer and period.
 const MARK_STEP: u64 = 41;
 
+// More than any signer's number, so that kind and signer make one number.
 const SIGNERS: u64 = 32;
-
-fn wide64(x: u8) -> u64
-    ensures { λ r. ⌜ (r ≡ x) × (r < 256) ⌝ }
-{
-    x as u64
-}
 
 // The mark of the four numbers of an entry.
 fn mark_of(kind: u8, signer: u8, period: u8, board: u64) -> usize
@@ -68,7 +66,7 @@ fn same_at(s: &[u8], e: usize, d: usize) -> bool
     s[o] == s[q]
 }
 
-// Whether an entry before e has the same four.
+// Whether an entry before e has the same four numbers.
 fn is_before(s: &[u8], e: usize) -> bool
     requires { ⌜ (length (now s) ≡ size) × (e < entries) ⌝ }
     ensures { λ r. ⌜ r ≡ any e (sameAt (now (s .entry)) e) ⌝ }
@@ -83,7 +81,7 @@ fn is_before(s: &[u8], e: usize) -> bool
     false
 }
 
-// Whether none has, where `seen` has the marks of all entries before e.
+// Whether no entry before e has the same four numbers. `mark` is entry e's; `seen` has the marks of all entries before it.
 fn is_new(s: &[u8], seen: &[u8], e: usize, mark: usize) -> bool
     requires { ⌜ (length (now s) ≡ size) × ((e < entries) × ((mark ≡ markAt (now s) e) × Seen (now s) (now seen) e)) ⌝ }
     ensures { λ r. ⌜ r ≡ newAt (now (s .entry)) e ⌝ }

@@ -1,8 +1,7 @@
 // Row 14 of the bag: how many entries it has, each of them by itself, no two the same, and nothing after the last.
 // It uses state's layout, bits to read, and view for what row 14 asks.
 ghost use mathlib.Core.Path.{_≡_};
-ghost use Prim.Native.Nat.{_^_, _<_, _≤_};
-ghost use lib.Dec.{ltb};
+ghost use Prim.Native.Nat.{_<_, _≤_};
 ghost use lib.ListN.{length};
 ghost use Rattle.base.specs.Below.{every};
 ghost use Rattle.state.specs.Layout.{items, entries, size};
@@ -45,17 +44,6 @@ fn signer_ok(n: u8, kind: u8, signer: u8) -> bool
     signer <= n
 }
 
-// Whether the board has no item m or above.
-fn board_ok(m: u8, board: u64) -> bool
-    requires { ⌜ m ≤ items ⌝ }
-    ensures { λ r. ⌜ r ≡ ltb board (2 ^ m) ⌝ }
-{
-    if m == 64 {
-        return true;
-    }
-    board >> m == 0
-}
-
 // Whether the four numbers are those of an entry of the table.
 fn four_ok(h: Head, kind: u8, signer: u8, period: u8, board: u64) -> bool
     requires { ⌜ h .items ≤ items ⌝ }
@@ -67,9 +55,10 @@ fn four_ok(h: Head, kind: u8, signer: u8, period: u8, board: u64) -> bool
     if period >= h.periods {
         return false;
     }
-    board_ok(h.items, board)
+    bits::is_below(board, h.items)
 }
 
+// Whether entry e is of the table, and its bytes are those of the entry that they say.
 fn entry_at_ok(s: &[u8], h: Head, e: usize) -> bool
     requires { ⌜ (length (now s) ≡ size) × ((e < entries) × (h .items ≤ items)) ⌝ }
     ensures { λ r. ⌜ r ≡ entryAtOk h (now (s .entry)) e ⌝ }
@@ -99,18 +88,12 @@ fn entries_ok(s: &[u8], h: Head, n: usize) -> bool
     true
 }
 
-fn wide16(x: u16) -> usize
-    ensures { λ r. ⌜ r ≡ x ⌝ }
-{
-    x as usize
-}
-
 // How many entries the bag has.
 pub fn count_of(s: &[u8]) -> usize
     requires { ⌜ length (now s) ≡ size ⌝ }
     ensures { λ r. ⌜ r ≡ count (now (s .entry)) ⌝ }
 {
-    wide16(bits::word(s, COUNT))
+    bits::word(s, COUNT) as usize
 }
 
 // Whether the bag has at most 256 entries, each of the table, no two the same, and only bytes that are 0 after the last.

@@ -1,5 +1,4 @@
 -- The four numbers are those of the entry that they say, and of the table.
-use mathlib.Core.Path.{_∙_}
 use borrow.Author.Needs.{needs}
 use Rattle.entries.proofs.Fields.{entry-at}
 use Rattle.entries.proofs.entry_at_ok.Statement.{statement}
@@ -36,7 +35,7 @@ four-ok-requires : tie.Need-four-ok-requires
 four-ok-requires c κs = search needs
 
 returns : tie.Need-returns
-returns c = c .four-ok .ensures ∙ entry-at _ _ _ _ (c .before .load .ensures)
+returns c = search entry-at
 
 pub entry-at-ok-spec : {M : Type 1} → statement M
 entry-at-ok-spec =

@@ -16,8 +16,8 @@ returns-2 : tie.Need-returns-2
 unfolding fourOk
 returns-2 c = search by-tests depth 12
 
-board-ok-requires : tie.Need-board-ok-requires
-board-ok-requires c κs = search needs
+is-below-requires : tie.Need-is-below-requires
+is-below-requires c κs = search needs
 
 returns-3 : tie.Need-returns-3
 unfolding fourOk
@@ -25,4 +25,4 @@ returns-3 c = search by-tests depth 12
 
 pub four-ok-spec : {M : Type 1} → statement M
 four-ok-spec =
-    tie.close (tie.spec signer-ok-requires returns returns-2 board-ok-requires returns-3)
+    tie.close (tie.spec signer-ok-requires returns returns-2 is-below-requires returns-3)

@@ -5,16 +5,16 @@ use Rattle.entries.proofs.distinct.is_new.Statement.{statement}
 use Rattle.entries.proofs.distinct.is_new.Tie as tie
 
 has-requires : tie.Need-has-requires
-has-requires c κs = mark-fits _ _ _ _ _ (c .before .before .pre .1 .1 .0) (c .before .before .pre .1 .1 .1)
+has-requires c κs = search mark-fits
 
 returns : tie.Need-returns
-returns c = unseen-new _ _ _ _ _ (c .before .before .before .before .pre .1 .1 .0) (c .before .before .before .before .pre .1 .1 .1) (c .before .has .ensures) (c .if1 .taken)
+returns c = search unseen-new
 
 is-before-requires : tie.Need-is-before-requires
 is-before-requires c κs = search needs
 
 returns-2 : tie.Need-returns-2
-returns-2 c = before-new _ _ _ (c .is-before .ensures)
+returns-2 c = search before-new
 
 pub is-new-spec : {M : Type 1} → statement M
 is-new-spec = tie.close (tie.spec has-requires returns is-before-requires returns-2)

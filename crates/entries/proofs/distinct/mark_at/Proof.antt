@@ -35,7 +35,7 @@ mark-of-requires : tie.Need-mark-of-requires
 mark-of-requires c κs = search needs
 
 returns : tie.Need-returns
-returns c = mark-at _ _ _ _ (c .before .load .ensures) (c .mark-of .ensures)
+returns c = search mark-at
 
 pub mark-at-spec : {M : Type 1} → statement M
 mark-at-spec =

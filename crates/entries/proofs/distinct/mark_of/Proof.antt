@@ -32,7 +32,7 @@ add-result : tie.Need-add-result
 add-result c = search needs
 
 returns : tie.Need-returns
-returns c = mark-of _ _ _ _ _ _ _ (c .before .before .wide64 .ensures .0) (c .before .wide642 .ensures .0) (c .wide643 .ensures .0)
+returns c = search mark-of
 
 pub mark-of-spec : {M : Type 1} → statement M
 mark-of-spec =
