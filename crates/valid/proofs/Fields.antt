@@ -15,8 +15,7 @@ use Rattle.state.specs.Layout.{peers, openAt, nextAt, downAt}
 use Rattle.state.specs.Numbers.{peerOf, slot}
 use Rattle.state.specs.Contents.{contents}
 use Rattle.view.specs.declared.Head.{Head}
-use Rattle.view.specs.StateOk.{peerOk, peersOk}
-use Rattle.valid.specs.Numbers.{numbersOk}
+use Rattle.view.specs.StateOk.{numbersOk, peerOk, peersOk}
 
 module _ (h : Head) (j p c d : ℕ) where
   pub not-there : (x y z : ℕ) → h .n < j → x ≡ p → y ≡ c → z ≡ d → eqb (x + y + z) 0 ≡ numbersOk h j p c d
@@ -52,7 +51,7 @@ module _ (h : Head) (s : List ℕ) where
       rw (p, le-leb 1 (i + 1) (omega arith), le-leb (i + 1) peers (omega arith), q) (ap (λ (k : ℕ). byteAt s (o + k)) {x = i + 1 - 1} {y = i} (omega arith))
 
   pub by-peer : (i : ℕ) (r : Bool) → r ≡ numbersOk h (i + 1) (byteAt s (openAt + i)) (byteAt s (nextAt + i)) (byteAt s (downAt + i)) → i < peers → r ≡ peerAtOk i
-  unfolding numbersOk peerAtOk peerOk
+  unfolding peerAtOk peerOk
   by-peer i r e l = e ∙ rw (number-at i openAt (OpenOf (i + 1)) l refl refl, number-at i nextAt (NextOf (i + 1)) l refl refl, number-at i downAt (DownOf (i + 1)) l refl refl)
 
 pub ruleset by-each-peer = (by-loop, by-peers, by-peer)

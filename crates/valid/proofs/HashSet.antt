@@ -1,5 +1,5 @@
 -- The set of hash entries, bit by bit: none yet, one entry more, all.
-use Prim.Native.Nat.{ℕ, zero, suc, _+_, _*_, _/_, _%_, _<_, _≤_}
+use Prim.Native.Nat.{ℕ, _+_, _*_, _/_, _%_, _<_, _≤_}
 use native.Mathlib.Decide.{ℕ-discrete, decLt}
 use native.Mathlib.Omega.{arith}
 use mathlib.Core.Bool.{Bool, true, false, _&&_, _||_, cond}
@@ -12,6 +12,7 @@ use borrow.Author.Tests.{lt-ltb, le-ltb, eq-eqb, ne-eqb}
 use Rattle.base.specs.Bits.{bit}
 use Rattle.base.specs.Bytes.{byteAt}
 use Rattle.base.proofs.Bits.{bit-none, pack-bit, pack-ext}
+use Rattle.base.proofs.Bytes.{zeros-at}
 use Rattle.base.proofs.Truth.{and-false}
 use Rattle.bits.specs.Row.{bitAt, putBit, Bytes}
 use Rattle.bits.proofs.Row.{length-put, bytes-put, bitAt-put}
@@ -25,12 +26,6 @@ use Rattle.state.proofs.Tab.{length-tab, getD-tab, getD-tab-out}
 use Rattle.valid.specs.Rows.{byteOf, mask}
 use Rattle.valid.specs.Regions.{entryBytes, hashIn}
 use Rattle.valid.proofs.Only.{bit-in, same-test}
-
--- zeros
-zero-at : (n b : ℕ) → byteAt (replicate n 0) b ≡ 0
-zero-at zero b = refl
-zero-at (suc n) zero = refl
-zero-at (suc n) (suc b) = zero-at n b
 
 module _ (s : List ℕ) where
   -- the kind of entry e is that of a hash
@@ -68,8 +63,8 @@ module _ (s : List ℕ) where
   hashes-none =
       record {
         long = length-replicate {A = ℕ} entryBytes 0;
-        bytes = λ b. omega (arith, zero-at entryBytes b);
-        each = λ k. ap (λ (x : ℕ). bit x (k % 8)) (zero-at entryBytes (k / 8)) ∙ bit-none (k % 8) ∙ ap (λ (b : Bool). b && hashByte k) (sym (le-ltb k 0 (omega arith)));
+        bytes = λ b. omega (arith, zeros-at entryBytes b);
+        each = λ k. ap (λ (x : ℕ). bit x (k % 8)) (zeros-at entryBytes (k / 8)) ∙ bit-none (k % 8) ∙ ap (λ (b : Bool). b && hashByte k) (sym (le-ltb k 0 (omega arith)));
       }
 
   pub hashes-more : (e : ℕ) (m m′ : List ℕ) → e < 256 → HashesTo e m → m′ ≡ cond (eqb (byteAt s (entryStart e)) hashKind) (putBit m e) m → HashesTo (e + 1) m′

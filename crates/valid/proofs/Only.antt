@@ -1,5 +1,5 @@
 -- Laws of rows of bits of which some must be 0: by bytes, and by rows.
-use Prim.Native.Nat.{ℕ, suc, _+_, _*_, _/_, _%_, _-_, _<_, _≤_}
+use Prim.Native.Nat.{ℕ, suc, _+_, _*_, _/_, _%_, _<_, _≤_}
 use native.Mathlib.Nat.{mul-comm, mul-left-comm, mul-suc, mul-le-mul-right}
 use native.Mathlib.Omega.{arith}
 use mathlib.Core.Bool.{Bool, true, false, _&&_, _||_, not}
@@ -18,6 +18,7 @@ use Rattle.base.proofs.Bits.{bit-or, bit-none, pack-bit, pack-ext}
 use Rattle.base.proofs.Chain.{by-loop}
 use Rattle.bits.specs.Row.{bitAt, zeros, Bytes}
 use Rattle.bits.proofs.Zeros.{zeroByte, zeros-all, gather-more}
+use Rattle.state.proofs.Places.{ap₃}
 use Rattle.valid.specs.Rows.{onlyIn, none, gated, inRows}
 
 -- a number has only bits of m: no bit is left beside those of m
@@ -97,13 +98,13 @@ module _ (s : List ℕ) (o : ℕ) where
 
   -- f where b holds, and none where it does not
 
-  pub only-there : (b : Bool) (f : ℕ → Bool) (n : ℕ) → b ≡ true → onlyIn n s o f ≡ onlyIn n s o (gated b f)
+  pub only-there : (b r : Bool) (f : ℕ → Bool) (n : ℕ) → b ≡ true → r ≡ onlyIn n s o f → r ≡ onlyIn n s o (gated b f)
   unfolding gated
-  only-there b f n e = rw e
+  only-there b r f n e q = rw e q
 
-  pub only-zeros : (b : Bool) (f : ℕ → Bool) (n : ℕ) → Bytes s → b ≡ false → zeros n s o ≡ onlyIn n s o (gated b f)
+  pub only-zeros : (b r : Bool) (f : ℕ → Bool) (n : ℕ) → Bytes s → b ≡ false → r ≡ zeros n s o → r ≡ onlyIn n s o (gated b f)
   unfolding gated none
-  only-zeros b f n h e = rw e (zeros-all s o n ∙ every-ext n (zeroByte s o) (byteIn none) (λ i l. byte-none i (h (o + i))) ∙ sym (only-bytes n none))
+  only-zeros b r f n h e q = rw e (q ∙ zeros-all s o n ∙ every-ext n (zeroByte s o) (byteIn none) (λ i l. byte-none i (h (o + i))) ∙ sym (only-bytes n none))
 
   -- rows of w bytes, each by itself
   unfoldable pub rowIn : ℕ → ℕ → (ℕ → Bool) → ℕ → Bool
@@ -126,9 +127,6 @@ module _ (s : List ℕ) (o : ℕ) where
 
       at : (r k : ℕ) → 8 * o + (r * (8 * w) + k) ≡ 8 * (o + w * r) + k
       at r k = omega (arith, mul-left-comm r 8 w, mul-comm r w)
-
-      ap₃ : {A B C D : Type 0} (g : A → B → C → D) {a a′ : A} {b b′ : B} {c c′ : C} → a ≡ a′ → b ≡ b′ → c ≡ c′ → g a b c ≡ g a′ b′ c′
-      ap₃ g p q r = λ i. g (p i) (q i) (r i)
 
   pub by-rows : (m used w : ℕ) (f : ℕ → Bool) (b : Bool) → b ≡ every m (rowIn used w f) → b ≡ onlyIn (m * w) s o (inRows used w f)
   by-rows m used w f b e = e ∙ sym (only-rows m used w f)

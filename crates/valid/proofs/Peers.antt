@@ -17,7 +17,7 @@ use Rattle.state.specs.Contents.{Contents, contents}
 use Rattle.state.proofs.Ranges.{peer-within}
 use Rattle.state.proofs.Frame.{number-none}
 use Rattle.view.specs.declared.Head.{Head}
-use Rattle.view.specs.StateOk.{peerOk, peersOk}
+use Rattle.view.specs.StateOk.{numbersOk, peerOk, peersOk}
 
 -- what holds of the three numbers of a peer
 pub record Numbers (h : Head) (c : Contents) (j : ℕ) : Type 0 where
@@ -29,7 +29,7 @@ pub record Numbers (h : Head) (c : Contents) (j : ℕ) : Type 0 where
 
 module _ (h : Head) where
   numbers-of : (c : Contents) (j : ℕ) → 1 ≤ j → peerOk h c j ≡ true → Numbers h c j
-  unfolding peerOk
+  unfolding peerOk numbersOk
   numbers-of c j l ok = go (either (leb j (h .n)))
     where
       go : (leb j (h .n) ≡ true) ⊎ (leb j (h .n) ≡ false) → Numbers h c j
@@ -46,7 +46,7 @@ module _ (h : Head) where
           record { open-at-most = omega arith; next-at-most = omega arith; flag = omega arith; has-open = λ q. absurd (omega arith); is-down = λ q. absurd (omega arith) }
 
   ok-of : (c : Contents) (j : ℕ) → Numbers h c j → peerOk h c j ≡ true
-  unfolding peerOk
+  unfolding peerOk numbersOk
   ok-of c j N = go (either (leb j (h .n)))
     where
       go : (leb j (h .n) ≡ true) ⊎ (leb j (h .n) ≡ false)

@@ -3,7 +3,7 @@ use Prim.Native.Nat.{ℕ, _+_, _<_, _≤_}
 use native.Mathlib.Omega.{arith}
 use mathlib.Core.Bool.{Bool, true, _&&_}
 use mathlib.Core.List.{List}
-use mathlib.Core.Path.{_≡_, subst}
+use mathlib.Core.Path.{_≡_}
 use lib.Dec.{eqb, ltb}
 use lib.ListN.{length}
 use borrow.Author.Tests.{eqb-true, eq-eqb, ltb-true, lt-ltb, le-leb}
@@ -11,7 +11,6 @@ use Rattle.base.specs.Bytes.{between}
 use Rattle.base.proofs.Truth.{and-i, and-l, and-r}
 use Rattle.base.proofs.Bytes.{between-true}
 use Rattle.bits.specs.Row.{Bytes}
-use Rattle.rules.specs.Bag.{entryAt, signerOf, periodOf, boardOf}
 use Rattle.rules.specs.Valid.{Valid, SetsIn, HeardIn}
 use Rattle.state.specs.declared.Fact.{Fact}
 use Rattle.state.specs.declared.Fact.the-variants.{Posted, Signed, Shared, Receipted, Held, Known, Heard}
@@ -22,7 +21,7 @@ use Rattle.view.specs.declared.Head.{Head}
 use Rattle.view.specs.View.{noClash, tableOf, stateOf}
 use Rattle.view.specs.StateOk.{factOk, factsOk, peersOk, bagOk, stateOk}
 use Rattle.view.specs.Ready.{Room, Ready}
-use Rattle.view.proofs.Heard.{told-number, told-in, number-told}
+use Rattle.view.proofs.Heard.{told-number, told-in, hearer}
 use Rattle.valid.proofs.Facts.{fact-of-ok, ok-of-facts}
 use Rattle.valid.proofs.Peers.{Numbers, peers-of-ok, ok-of-peers}
 use Rattle.entries.proofs.Bag.{canon-of-ok, bag-of-ok, ok-of-bag}
@@ -87,11 +86,6 @@ module _ (h : Head) (s : List ℕ) where
     is-spot : (k p x : ℕ) → ((1 ≤ k) × (k ≤ h .n)) × ((p < h .periods) × (x < h .items)) → between 1 k (h .n) && (ltb p (h .periods) && ltb x (h .items)) ≡ true
     is-spot k p x q = and-i _ _ (is-peer k (q .0)) (is-cell p x (q .1))
 
-    hearer : (j e : ℕ) → contents s .has (Heard j e) ≡ true → (1 ≤ j) × (j ≤ h .n)
-    hearer j e q =
-        let a = entryAt (contents s .bag) e in
-        W .heard j (signerOf a) (periodOf a) (boardOf a) (number-told (λ a. contents s .has (Heard j a)) 0 e (contents s .bag) (subst (λ (x : ℕ). contents s .has (Heard j x) ≡ true) {x = e} {y = 0 + e} (omega arith) q) (R .good noClash .sound .hears j e q)) .0
-
     of-table : (f : Fact) → contents s .has f ≡ true → factOk h (contents s .bag) f ≡ true
     of-table (Posted i) e = lt-ltb i (h .items) (W .sets .posts i e)
     of-table (Signed k p i) e = is-spot k p i (W .sets .signs k p i e)
@@ -99,7 +93,7 @@ module _ (h : Head) (s : List ℕ) where
     of-table (Receipted p i) e = is-cell p i (W .sets .receipts p i e)
     of-table (Held j p i) e = is-spot j p i (W .sets .holds j p i e)
     of-table (Known j p i k) e = let q = W .sets .knows j p i k e in and-i _ _ (is-peer j (q .0 .0)) (is-spot k p i (q .1, q .0 .1))
-    of-table (Heard j n) e = and-i _ _ (is-peer j (hearer j n e)) (R .good noClash .sound .hears j n e)
+    of-table (Heard j n) e = and-i _ _ (is-peer j (hearer _ (contents s) (R .good noClash) j n e)) (R .good noClash .sound .hears j n e)
 
     numbers : (j : ℕ) → Numbers h (contents s) j
     numbers j = record {

@@ -2,9 +2,8 @@
 ghost use mathlib.Core.Path.{_≡_};
 ghost use lib.ListN.{length};
 ghost use Rattle.state.specs.Layout.{size};
-ghost use Rattle.view.specs.StateOk.{peersOk};
-ghost use Rattle.valid.specs.Numbers.{numbersOk};
-use crate::wide::wide;
+ghost use Rattle.view.specs.StateOk.{numbersOk, peersOk};
+use base::wide;
 use state::layout::DOWN;
 use state::layout::NEXT;
 use state::layout::OPEN;

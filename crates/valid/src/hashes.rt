@@ -12,12 +12,12 @@ use state::layout::BAG;
 use state::layout::ENTRY_SIZE;
 use state::layout::HASH;
 
-// Sets bit a if so it is.
-fn put_if(m: &mut [u8], a: usize, so: bool)
+// Sets bit a if told so.
+fn put_if(m: &mut [u8], a: usize, yes: bool)
     requires { ⌜ a / 8 < length (now m) ⌝ }
-    ensures { λ _. ⌜ now (m .exit) ≡ cond so (putBit (now (m .entry)) a) (now (m .entry)) ⌝ }
+    ensures { λ _. ⌜ now (m .exit) ≡ cond yes (putBit (now (m .entry)) a) (now (m .entry)) ⌝ }
 {
-    if so {
+    if yes {
         bits::put(m, a);
     }
 }

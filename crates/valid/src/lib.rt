@@ -15,7 +15,6 @@ mod hashes;
 mod mask;
 mod rows;
 mod sets;
-mod wide;
 
 // Row 14: whether the bytes are a state of the table.
 pub fn state_ok(s: &[u8], h: Head) -> bool

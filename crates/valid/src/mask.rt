@@ -5,7 +5,7 @@ ghost use lib.ListN.{length};
 ghost use Rattle.state.specs.Layout.{periods, items, peerBytes, itemBytes};
 ghost use Rattle.valid.specs.Rows.{first, inRows, byteOf, mask};
 ghost use Rattle.valid.specs.Regions.{cells, seats};
-use crate::wide::wide;
+use base::wide;
 use state::layout::ITEM_BYTES;
 use state::layout::PEER_BYTES;
 use view::Head;

@@ -21,7 +21,7 @@ pub(crate) fn only(s: &[u8], o: usize, mask: &[u8]) -> bool
     beside == 0
 }
 
-// The same where the row is one of the table; where it is not, whether its bytes are 0.
+// Of one row: where the table has it, whether only bits of the mask are 1; where not, whether its bytes are 0.
 fn row(s: &[u8], o: usize, there: bool, mask: &[u8]) -> bool
     requires { ⌜ o + length (now mask) ≤ length (now s) ⌝ }
     ensures { λ r. ⌜ r ≡ maskedIf there (now (s .entry)) o (now (mask .entry)) ⌝ }
@@ -32,7 +32,7 @@ fn row(s: &[u8], o: usize, there: bool, mask: &[u8]) -> bool
     bits::all_zero(s, o, mask.len())
 }
 
-// The same for all rows from byte o on, of which the first `used` are those of the table.
+// Whether this holds of each of the rows from byte o on, of which the table has the first `used`.
 pub(crate) fn each_row(s: &[u8], o: usize, rows: usize, used: usize, mask: &[u8]) -> bool
     requires { ⌜ o + rows * length (now mask) ≤ length (now s) ⌝ }
     ensures { λ r. ⌜ r ≡ rowsMasked rows used (now (s .entry)) o (now (mask .entry)) ⌝ }
@@ -47,7 +47,7 @@ pub(crate) fn each_row(s: &[u8], o: usize, rows: usize, used: usize, mask: &[u8]
     true
 }
 
-// The same for the rows of one peer, a row for each period, where the table has the peer; where it does not, whether their bytes are 0.
+// Of one peer's rows, one for each period: where the table has the peer, whether each row is as above; where not, whether their bytes are 0.
 fn table(s: &[u8], o: usize, there: bool, used: usize, mask: &[u8]) -> bool
     requires { ⌜ (length (now mask) ≤ 128) × (o + periods * length (now mask) ≤ length (now s)) ⌝ }
     ensures { λ r. ⌜ r ≡ tableMaskedIf there used (now (s .entry)) o (now (mask .entry)) ⌝ }
@@ -58,7 +58,7 @@ fn table(s: &[u8], o: usize, there: bool, used: usize, mask: &[u8]) -> bool
     bits::all_zero(s, o, PERIODS * mask.len())
 }
 
-// The same for all peers, of whom the table has the first n.
+// Whether this holds of each peer, of whom the table has the first n.
 pub(crate) fn each_table(s: &[u8], o: usize, n: usize, used: usize, mask: &[u8]) -> bool
     requires { ⌜ (length (now mask) ≤ 128) × (o + peers * (periods * length (now mask)) ≤ length (now s)) ⌝ }
     ensures { λ r. ⌜ r ≡ tablesMasked n used (now (s .entry)) o (now (mask .entry)) ⌝ }

@@ -13,7 +13,7 @@ use crate::mask::of_seats;
 use crate::rows::each_row;
 use crate::rows::each_table;
 use crate::rows::only;
-use crate::wide::wide;
+use base::wide;
 use state::layout::DATABASE;
 use state::layout::HEARD;
 use state::layout::HELD;

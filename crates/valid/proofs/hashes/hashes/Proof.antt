@@ -13,7 +13,7 @@ abbrev μ-loop : tie.MeasureT-loop
 μ-loop s n m₀ e₀ m e = n - e
 
 loop-holds : tie.Need-loop-holds Inv-loop μ-loop
-loop-holds c = (search needs, hashes-none _)
+loop-holds c = (search needs, search hashes-none)
 
 slice-aggregate-put-if : tie.Need-slice-aggregate-put-if Inv-loop μ-loop
 slice-aggregate-put-if c = search needs
@@ -40,7 +40,7 @@ loop-again : tie.Need-loop-again Inv-loop μ-loop
 loop-again c = (search needs, hashes-more _ _ _ _ (omega arith) (c .before .before .before .before .before .loop .inv .1) (c .before .put-if .ensures))
 
 returns : tie.Need-returns Inv-loop μ-loop
-returns c = hashes-all _ _ _ _ (c .before .loop .inv .1) (omega arith) (omega arith) (c .before .before .before .pre .1 .0)
+returns c = search hashes-all
 
 pub hashes-spec : {M : Type 1} → statement M
 hashes-spec =

@@ -1,5 +1,4 @@
 -- A row of the table is tested with the mask, another for zeros.
-use mathlib.Core.Path.{_∙_}
 use borrow.Author.Needs.{needs}
 use Rattle.valid.proofs.Only.{only-there, only-zeros}
 use Rattle.valid.proofs.rows.row.Statement.{statement}
@@ -9,13 +8,13 @@ only-requires : tie.Need-only-requires
 only-requires c κs = search needs
 
 returns : tie.Need-returns
-returns c = c .only .ensures ∙ only-there _ _ _ _ _ (c .before .if1 .taken)
+returns c = search only-there
 
 all-zero-requires : tie.Need-all-zero-requires
 all-zero-requires c κs = search needs
 
 returns-2 : tie.Need-returns-2
-returns-2 c = c .all-zero .ensures ∙ only-zeros _ _ _ _ _ (λ k. c .before .before .before .shared-slice-known .given k .fits) (c .before .if1 .left)
+returns-2 c = only-zeros _ _ _ _ _ _ (λ k. c .before .before .before .shared-slice-known .given k .fits) (c .before .if1 .left) (c .all-zero .ensures)
 
 pub row-spec : {M : Type 1} → statement M
 row-spec = tie.close (tie.spec only-requires returns all-zero-requires returns-2)

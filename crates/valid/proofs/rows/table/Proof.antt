@@ -1,5 +1,4 @@
 -- A peer's rows are tested with the mask, those of another for zeros.
-use mathlib.Core.Path.{_∙_}
 use borrow.Author.Needs.{needs}
 use Rattle.valid.proofs.Only.{only-there, only-zeros}
 use Rattle.valid.proofs.rows.table.Statement.{statement}
@@ -9,7 +8,7 @@ each-row-requires : tie.Need-each-row-requires
 each-row-requires c κs = search needs
 
 returns : tie.Need-returns
-returns c = c .each-row .ensures ∙ only-there _ _ _ _ _ (c .before .if1 .taken)
+returns c = search only-there
 
 mul-all-zero : tie.Need-mul-all-zero
 mul-all-zero c = search needs
@@ -18,7 +17,7 @@ all-zero-requires : tie.Need-all-zero-requires
 all-zero-requires c κs = search needs
 
 returns-2 : tie.Need-returns-2
-returns-2 c = c .all-zero .ensures ∙ only-zeros _ _ _ _ _ (λ k. c .before .before .before .shared-slice-known .given k .fits) (c .before .if1 .left)
+returns-2 c = only-zeros _ _ _ _ _ _ (λ k. c .before .before .before .shared-slice-known .given k .fits) (c .before .if1 .left) (c .all-zero .ensures)
 
 pub table-spec : {M : Type 1} → statement M
 table-spec =

@@ -17,7 +17,7 @@ each-row-requires : tie.Need-each-row-requires
 each-row-requires c κs = search needs
 
 returns : tie.Need-returns
-returns c = by-heard _ _ _ (c .before .before .before .hashes .ensures) _ (c .before .before .wide .ensures .0) (c .each-row .ensures)
+returns c = search by-heard
 
 pub heard-ok-spec : {M : Type 1} → statement M
 heard-ok-spec =
