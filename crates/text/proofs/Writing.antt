@@ -1,14 +1,14 @@
 -- Writers one after the other: nothing, one text and then another, a byte, a word, each of a row of texts, and a text where a test holds.
-use Prim.Native.Nat.{ℕ, zero, suc, _+_, _%_, _^_, _≤_, _<_}
+use Prim.Native.Nat.{ℕ, suc, _+_, _%_, _^_, _≤_, _<_}
 use native.Mathlib.Nat.{add-zero, add-suc, suc-add, le-antisymm}
 use native.Mathlib.Numerals.{add-one}
 use native.Mathlib.Omega.{arith}
 use mathlib.Core.Bool.{Bool, true, false, cond}
 use mathlib.Core.List.{List, [], _∷_, _++_}
-use mathlib.Core.Path.{_≡_, refl, sym, ap, ap₂, subst, subst⁻¹, _∙_}
+use mathlib.Core.Path.{_≡_, refl, sym, ap₂, subst, subst⁻¹, _∙_}
 use lib.ListN.{length, take, set, getD, length-append, length-set}
-use lib.Seq.{sets, length-sets, set-out, take-suc, take-all}
-use Rattle.text.specs.Wrote.{over, Put, Wrote, each}
+use lib.Seq.{sets, set-out, take-suc, take-all}
+use Rattle.text.specs.Wrote.{over, Wrote, each}
 
 -- nothing
 pub none : {l : List ℕ} {a : ℕ} → Wrote l a [] l a

@@ -29,15 +29,13 @@ loop-less : tie.Need-loop-less Inv-loop μ-loop
 loop-less c = search needs
 
 loop-again : tie.Need-loop-again Inv-loop μ-loop
-loop-again c =
-    let turn = c .before .before .before .before .before in
-    (search needs, word-more _ _ (turn .loop-test .taken) (turn .before .loop .inv .1) (c .before .before .put-byte .ensures))
+loop-again c = (search needs, search word-more)
 
 same-length : tie.Need-same-length Inv-loop μ-loop
-same-length c = c .before .loop .inv .1 .long
+same-length c = search needs
 
 returns : tie.Need-returns Inv-loop μ-loop
-returns c = word-all _ _ (c .loop-test .left) (c .before .loop .inv .1)
+returns c = search word-all
 
 pub put-word-spec : {M : Type 1} → statement M
 put-word-spec =
