@@ -12,7 +12,7 @@ pub struct Counters {
 }
 
 // The open period rises by one.
-pub fn closed(k: Counters) -> Counters
+fn closed(k: Counters) -> Counters
     requires { ⌜ k .current < 255 ⌝ }
     ensures { λ r. ⌜ r ≡ riseCurrent k ⌝ }
 {
@@ -23,7 +23,7 @@ pub fn closed(k: Counters) -> Counters
 }
 
 // The next period to back rises by one.
-pub fn backed(k: Counters) -> Counters
+fn backed(k: Counters) -> Counters
     requires { ⌜ k .«to_back» < 255 ⌝ }
     ensures { λ r. ⌜ r ≡ riseToBack k ⌝ }
 {
