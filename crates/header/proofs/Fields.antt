@@ -1,21 +1,17 @@
 -- Laws of the header's fields.
-use Prim.Native.Nat.{ℕ, zero, suc, _-_, _/_, _%_, _^_, _≤_, _<_}
+use Prim.Native.Nat.{ℕ, _/_, _^_, _≤_, _<_}
 use native.Mathlib.Nat.{lt-div-mul-add}
-use native.Mathlib.Numerals.{sub-one}
 use native.Mathlib.Omega.{arith}
 use mathlib.Core.Bool.{Bool, true, false}
 use mathlib.Core.List.{List}
-use mathlib.Core.Logic.{_⊎_, inl, inr}
-use mathlib.Core.Path.{_≡_, refl, sym}
-use lib.Dec.{eqb, ltb}
+use mathlib.Core.Path.{_≡_, refl}
 use lib.ListN.{length}
 use lib.Pow.{pow-pos}
-use borrow.Author.Tests.{le-leb, lt-leb, eqb-true, ltb-true, ltb-false}
+use borrow.Author.Tests.{le-leb, lt-leb, eqb-true}
 use Rattle.base.specs.Bytes.{between}
 use Rattle.base.specs.Weight.{ones, all}
-use Rattle.base.proofs.Truth.{split, false-true, either, and-l}
+use Rattle.base.proofs.Truth.{and-l}
 use Rattle.base.proofs.Bytes.{between-true}
-use Rattle.base.proofs.Bits.{bit-shr, bit-high}
 use Rattle.base.proofs.Weight.{weight-mono, count-all}
 use Rattle.header.specs.Header.{headerSize, peersOf, thresholdOf, honestOf, periodsOf, itemsOf}
 use Rattle.header.specs.Header.{isHonest, honestCount, leastThreshold, noneAbove, thresholdOk, fieldsOk, headerOk}
