@@ -11,7 +11,7 @@ use borrow.Author.Tests.{eq-eqb, ne-eqb, eqb-true, le-leb, leb-true, leb-false, 
 use Rattle.base.proofs.Truth.{either, iff, or-l}
 
 -- m is at most a exactly if a is not below m
-not-below : (a m : ℕ) → leb m a ≡ not (ltb a m)
+pub not-below : (a m : ℕ) → leb m a ≡ not (ltb a m)
 not-below a m = go (either (leb m a))
   where
     go : (leb m a ≡ true) ⊎ (leb m a ≡ false) → leb m a ≡ not (ltb a m)
@@ -40,23 +40,8 @@ pub ruleset read-tests = (at-least, at-most, at-most-read, below-read, is-read, 
 
 -- names
 
-pub no-item-test : (a m : ℕ) → leb m a ≡ not (ltb a m)
-no-item-test a m = not-below a m
-
 pub peer-zero : (n j : ℕ) → j ≡ 0 → true ≡ (eqb j 0 || ltb n j)
 peer-zero n j e = sym (or-l _ _ (eq-eqb j 0 e))
 
 pub peer-other : (n j : ℕ) → (j ≡ 0 → ⊥) → ltb n j ≡ (eqb j 0 || ltb n j)
 peer-other n j d = rw (ne-eqb j 0 d)
-
-pub board-all : (B m : ℕ) → B < 2 ^ 64 → m ≡ 64 → false ≡ not (ltb B (2 ^ m))
-board-all B m l e = rw (e, lt-ltb B (2 ^ 64) l)
-
-pub board-some : (B m : ℕ) → not (eqb (B / 2 ^ m) 0) ≡ not (ltb B (2 ^ m))
-board-some B m = ap not (iff _ _ (λ e. lt-ltb B (2 ^ m) (small (eqb-true (B / 2 ^ m) 0 e))) (λ e. eq-eqb (B / 2 ^ m) 0 (none (ltb-true B (2 ^ m) e))))
-  where
-    small : B / 2 ^ m ≡ 0 → B < 2 ^ m
-    small z = omega (arith, div-lt-iff-lt-mul {k = 2 ^ m} {x = B} {y = 1} (pow-pos m) .0 (omega arith))
-
-    none : B < 2 ^ m → B / 2 ^ m ≡ 0
-    none l = omega (arith, div-lt-iff-lt-mul {k = 2 ^ m} {x = B} {y = 1} (pow-pos m) .1 (omega arith))

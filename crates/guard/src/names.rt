@@ -30,23 +30,12 @@ pub fn no_item(h: Head, x: u8) -> bool
     h.items <= x
 }
 
-// Whether a set of items has one that is not below `items`.
-fn has_above(board: u64, items: u8) -> bool
-    requires { ⌜ items ≤ 64 ⌝ }
-    ensures { λ r. ⌜ r ≡ noBoard items board ⌝ }
-{
-    if items == 64 {
-        return false;
-    }
-    board >> items != 0
-}
-
 // Whether the board has an item that the table has not.
 pub fn no_board(h: Head, board: u64) -> bool
     requires { ⌜ h .items ≤ 64 ⌝ }
     ensures { λ r. ⌜ r ≡ noBoard (h .items) board ⌝ }
 {
-    has_above(board, h.items)
+    !bits::is_below(board, h.items)
 }
 
 // Whether peer j is honest.

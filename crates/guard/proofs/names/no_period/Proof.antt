@@ -1,10 +1,10 @@
--- By `no-item-test`.
-use Rattle.guard.proofs.Tests.{no-item-test}
+-- By `not-below`.
+use Rattle.guard.proofs.Tests.{not-below}
 use Rattle.guard.proofs.names.no_period.Statement.{statement}
 use Rattle.guard.proofs.names.no_period.Tie as tie
 
 returns : tie.Need-returns
-returns c = search no-item-test
+returns c = search not-below
 
 pub no-period-spec : {M : Type 1} → statement M
 no-period-spec = tie.close (tie.spec returns)
