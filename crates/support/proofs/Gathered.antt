@@ -23,7 +23,7 @@ use Rattle.bits.proofs.Count.{ones-pack}
 use Rattle.rules.specs.declared.Entry.{Entry}
 use Rattle.rules.specs.declared.Entry.the-variants.{Hash, Backing, Board}
 use Rattle.rules.specs.Bag.{sameEntry, isIn, isHash, entryAt, kindOf, signerOf, periodOf, boardOf}
-use Rattle.rules.proofs.Bag.{eq-of-same, same-self}
+use Rattle.rules.proofs.Bag.{in-at, at-in}
 use Rattle.state.specs.declared.Fact.the-variants.{Heard}
 use Rattle.state.specs.Layout.{hashKind, backingKind}
 use Rattle.state.specs.Contents.{Contents, contents}
@@ -31,7 +31,7 @@ use Rattle.bag.specs.Bag.{signerWith}
 use Rattle.view.specs.declared.Head.{Head}
 use Rattle.view.specs.View.{noClash, told}
 use Rattle.view.specs.Ready.{Ready}
-use Rattle.view.proofs.Heard.{told-in, number-told}
+use Rattle.view.proofs.Heard.{told-at, told-in, number-told}
 use Rattle.support.specs.Signers.{heardSigner, backSigner, withPeer, gathered}
 use Rattle.guard.proofs.Counts.{among}
 
@@ -142,35 +142,6 @@ backing-is (Board q C) k p B a e = absurd (omega (arith, signer-of (Board q C) b
 found-backing : (x : Entry) (k p B : ℕ) → x ≡ Backing k p B → signerWith backingKind p B x ≡ k
 found-backing x k p B e = rw e (of-signer (Backing k p B))
 
--- where the bag has an entry
-
-told-at : (H : ℕ → Bool) (i : ℕ) (bag : List Entry) (k p B : ℕ) → told H i bag k p B ≡ true → (e : ℕ) × (e < length bag) × (H (i + e) ≡ true) × (sameEntry (Hash k p B) (entryAt bag e) ≡ true)
-unfolding told
-told-at H i [] k p B t = false-true t
-told-at H i (a ∷ bag) k p B t = go (or-cases (H i && sameEntry (Hash k p B) a) _ t) (told-at H (suc i) bag k p B)
-  where
-    go : (H i && sameEntry (Hash k p B) a ≡ true) ⊎ (told H (suc i) bag k p B ≡ true)
-        → (told H (suc i) bag k p B ≡ true → (e : ℕ) × (e < length bag) × (H (suc i + e) ≡ true) × (sameEntry (Hash k p B) (entryAt bag e) ≡ true))
-        → (e : ℕ) × (e < length (a ∷ bag)) × (H (i + e) ≡ true) × (sameEntry (Hash k p B) (entryAt (a ∷ bag) e) ≡ true)
-    go (inl h) r = (0, omega arith, subst (λ (x : ℕ). H x ≡ true) (omega arith) (and-l (H i) _ h), and-r (H i) _ h)
-    go (inr h) r = (suc (r h .0), omega (arith, r h .1), subst (λ (x : ℕ). H x ≡ true) {x = suc i + r h .0} {y = i + suc (r h .0)} (omega arith) (r h .2), r h .3)
-
-in-at : (x : Entry) (bag : List Entry) → isIn x bag ≡ true → (e : ℕ) × (e < length bag) × (sameEntry x (entryAt bag e) ≡ true)
-unfolding isIn
-in-at x [] t = false-true t
-in-at x (a ∷ bag) t = go (or-cases (sameEntry x a) _ t) (in-at x bag)
-  where
-    go : (sameEntry x a ≡ true) ⊎ (isIn x bag ≡ true) → (isIn x bag ≡ true → (e : ℕ) × (e < length bag) × (sameEntry x (entryAt bag e) ≡ true))
-        → (e : ℕ) × (e < length (a ∷ bag)) × (sameEntry x (entryAt (a ∷ bag) e) ≡ true)
-    go (inl h) r = (0, omega arith, h)
-    go (inr h) r = (suc (r h .0), omega (arith, r h .1), r h .2)
-
-at-in : (x : Entry) (bag : List Entry) (e : ℕ) → e < length bag → sameEntry x (entryAt bag e) ≡ true → isIn x bag ≡ true
-unfolding isIn
-at-in x [] e l t = absurd (omega arith)
-at-in x (a ∷ bag) zero l t = or-l _ _ t
-at-in x (a ∷ bag) (suc e) l t = or-r (sameEntry x a) _ (at-in x bag e (omega arith) t)
-
 -- the supporters that were found are those of the rules
 
 module _ (c : Contents) (p B k : ℕ) (a : 1 ≤ k) where
@@ -205,7 +176,7 @@ module _ (c : Contents) (p B k : ℕ) (a : 1 ≤ k) where
           let f = told-at H 0 (c .bag) k p B t in
           let e = f .0 in
           any-at (λ e. eqb (heardSigner c j p B e) k) e (length (c .bag)) (f .1)
-          (eq-eqb (heardSigner c j p B e) k (found-heard j e (subst (λ (x : ℕ). H x ≡ true) {x = 0 + e} {y = e} (omega arith) (f .2)) (sym (eq-of-same (Hash k p B) (entryAt (c .bag) e) (f .3)))))
+          (eq-eqb (heardSigner c j p B e) k (found-heard j e (subst (λ (x : ℕ). H x ≡ true) {x = 0 + e} {y = e} (omega arith) (f .2)) (f .3)))
 
   backers-same : any (length (c .bag)) (λ e. eqb (backSigner c p B e) k) ≡ isIn (Backing k p B) (c .bag)
   unfolding backSigner
@@ -215,12 +186,12 @@ module _ (c : Contents) (p B k : ℕ) (a : 1 ≤ k) where
       to t =
           let f = any-found (length (c .bag)) (λ e. eqb (signerWith backingKind p B (entryAt (c .bag) e)) k) t in
           let x = entryAt (c .bag) (f .0) in
-          at-in (Backing k p B) (c .bag) (f .0) (f .1) (subst (λ (y : Entry). sameEntry (Backing k p B) y ≡ true) {x = Backing k p B} {y = x} (sym (backing-is x k p B a (eqb-true (signerWith backingKind p B x) k (f .2)))) (same-self (Backing k p B)))
+          at-in (Backing k p B) (c .bag) (f .0) (f .1) (backing-is x k p B a (eqb-true (signerWith backingKind p B x) k (f .2)))
 
       from : isIn (Backing k p B) (c .bag) ≡ true → any (length (c .bag)) (λ e. eqb (signerWith backingKind p B (entryAt (c .bag) e)) k) ≡ true
       from t =
           let f = in-at (Backing k p B) (c .bag) t in
-          any-at (λ e. eqb (signerWith backingKind p B (entryAt (c .bag) e)) k) (f .0) (length (c .bag)) (f .1) (eq-eqb _ k (found-backing (entryAt (c .bag) (f .0)) k p B (sym (eq-of-same (Backing k p B) (entryAt (c .bag) (f .0)) (f .2)))))
+          any-at (λ e. eqb (signerWith backingKind p B (entryAt (c .bag) e)) k) (f .0) (length (c .bag)) (f .1) (eq-eqb _ k (found-backing (entryAt (c .bag) (f .0)) k p B (f .2)))
 
 -- in a state that is ready no supporter is above n
 

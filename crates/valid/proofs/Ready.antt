@@ -21,7 +21,7 @@ use Rattle.view.specs.declared.Head.{Head}
 use Rattle.view.specs.View.{noClash, tableOf, stateOf}
 use Rattle.view.specs.StateOk.{factOk, factsOk, peersOk, bagOk, stateOk}
 use Rattle.view.specs.Ready.{Room, Ready}
-use Rattle.view.proofs.Heard.{told-number, told-in, hearer}
+use Rattle.view.proofs.Heard.{told-at, told-in, hearer}
 use Rattle.valid.proofs.Facts.{fact-of-ok, ok-of-facts}
 use Rattle.valid.proofs.Peers.{Numbers, peers-of-ok, ok-of-peers}
 use Rattle.entries.proofs.Bag.{canon-of-ok, bag-of-ok, ok-of-bag}
@@ -41,8 +41,8 @@ module _ (h : Head) (s : List ℕ) where
 
   heard-of-ok : (clash : ℕ → ℕ → Bool) → factsOk h s ≡ true → HeardIn (tableOf h clash) (stateOf (contents s) .heard) (contents s .bag)
   heard-of-ok clash ok j k p B t =
-      let e = told-number (λ a. contents s .has (Heard j a)) 0 (contents s .bag) k p B t in
-      (between-true 1 j (h .n) (and-l (between 1 j (h .n)) _ (fact-of-ok h s ok (Heard j (0 + e .0)) (e .1))), told-in (λ a. contents s .has (Heard j a)) 0 (contents s .bag) k p B t)
+      let e = told-at (λ a. contents s .has (Heard j a)) 0 (contents s .bag) k p B t in
+      (between-true 1 j (h .n) (and-l (between 1 j (h .n)) _ (fact-of-ok h s ok (Heard j (0 + e .0)) (e .2))), told-in (λ a. contents s .has (Heard j a)) 0 (contents s .bag) k p B t)
 
   pub ready-of-ok : Room h → Bytes s → stateOk h s ≡ true → Ready h s
   unfolding stateOk

@@ -1,39 +1,36 @@
 -- Heard entry numbers and heard hashes: each comes from the other.
-use Prim.Native.Nat.{ℕ, zero, suc, _+_, _≤_}
+use Prim.Native.Nat.{ℕ, zero, suc, _+_, _<_, _≤_}
 use native.Mathlib.Omega.{arith}
 use mathlib.Core.Bool.{Bool, true, _&&_, _||_}
 use mathlib.Core.List.{List, [], _∷_}
-use mathlib.Core.Path.{_≡_, subst}
+use mathlib.Core.Path.{_≡_, sym, subst}
 use mathlib.Core.Logic.{_⊎_, inl, inr}
+use lib.ListN.{length}
 use Rattle.base.proofs.Truth.{false-true, and-i, and-l, and-r, or-l, or-r, or-cases}
 use Rattle.rules.specs.declared.Entry.{Entry}
 use Rattle.rules.specs.declared.Entry.the-variants.{Hash, Backing, Board}
 use Rattle.rules.specs.Bag.{sameEntry, isIn, isHash, entryAt, signerOf, periodOf, boardOf}
 use Rattle.rules.specs.Table.{Table}
-use Rattle.rules.proofs.Bag.{same-self}
+use Rattle.rules.proofs.Bag.{same-self, eq-of-same, at-in}
 use Rattle.state.specs.declared.Fact.the-variants.{Heard}
 use Rattle.state.specs.Contents.{Contents}
 use Rattle.view.specs.Good.{Good}
 use Rattle.view.specs.View.{told}
 
--- a heard hash has a number that was heard, and is in the bag
-pub told-number : (H : ℕ → Bool) (i : ℕ) (bag : List Entry) (k p B : ℕ) → told H i bag k p B ≡ true → (e : ℕ) × (H (i + e) ≡ true)
+-- a heard hash has a number that was heard, and stands there in the bag
+pub told-at : (H : ℕ → Bool) (i : ℕ) (bag : List Entry) (k p B : ℕ) → told H i bag k p B ≡ true → (e : ℕ) × (e < length bag) × (H (i + e) ≡ true) × (entryAt bag e ≡ Hash k p B)
 unfolding told
-told-number H i [] k p B t = false-true t
-told-number H i (a ∷ bag) k p B t = go (or-cases (H i && sameEntry (Hash k p B) a) _ t) (told-number H (suc i) bag k p B)
+told-at H i [] k p B t = false-true t
+told-at H i (a ∷ bag) k p B t = go (or-cases (H i && sameEntry (Hash k p B) a) _ t) (told-at H (suc i) bag k p B)
   where
-    go : (H i && sameEntry (Hash k p B) a ≡ true) ⊎ (told H (suc i) bag k p B ≡ true) → (told H (suc i) bag k p B ≡ true → (e : ℕ) × (H (suc i + e) ≡ true)) → (e : ℕ) × (H (i + e) ≡ true)
-    go (inl h) r = (0, subst (λ (x : ℕ). H x ≡ true) (omega arith) (and-l (H i) _ h))
-    go (inr h) r = (suc (r h .0), subst (λ (x : ℕ). H x ≡ true) {x = suc i + r h .0} {y = i + suc (r h .0)} (omega arith) (r h .1))
+    go : (H i && sameEntry (Hash k p B) a ≡ true) ⊎ (told H (suc i) bag k p B ≡ true)
+        → (told H (suc i) bag k p B ≡ true → (e : ℕ) × (e < length bag) × (H (suc i + e) ≡ true) × (entryAt bag e ≡ Hash k p B))
+        → (e : ℕ) × (e < length (a ∷ bag)) × (H (i + e) ≡ true) × (entryAt (a ∷ bag) e ≡ Hash k p B)
+    go (inl h) r = (0, omega arith, subst (λ (x : ℕ). H x ≡ true) (omega arith) (and-l (H i) _ h), sym (eq-of-same (Hash k p B) a (and-r (H i) _ h)))
+    go (inr h) r = (suc (r h .0), omega (arith, r h .1), subst (λ (x : ℕ). H x ≡ true) {x = suc i + r h .0} {y = i + suc (r h .0)} (omega arith) (r h .2), r h .3)
 
 pub told-in : (H : ℕ → Bool) (i : ℕ) (bag : List Entry) (k p B : ℕ) → told H i bag k p B ≡ true → isIn (Hash k p B) bag ≡ true
-unfolding told isIn
-told-in H i [] k p B t = false-true t
-told-in H i (a ∷ bag) k p B t = go (or-cases (H i && sameEntry (Hash k p B) a) _ t) (told-in H (suc i) bag k p B)
-  where
-    go : (H i && sameEntry (Hash k p B) a ≡ true) ⊎ (told H (suc i) bag k p B ≡ true) → (told H (suc i) bag k p B ≡ true → isIn (Hash k p B) bag ≡ true) → sameEntry (Hash k p B) a || isIn (Hash k p B) bag ≡ true
-    go (inl h) r = or-l _ _ (and-r (H i) _ h)
-    go (inr h) r = or-r (sameEntry (Hash k p B) a) _ (r h)
+told-in H i bag k p B t = let f = told-at H i bag k p B t in at-in (Hash k p B) bag (f .0) (f .1) (f .3)
 
 -- a heard number of a hash entry is that of a heard hash
 pub number-told : (H : ℕ → Bool) (i e : ℕ) (bag : List Entry) → H (i + e) ≡ true → isHash (entryAt bag e) ≡ true

@@ -8,7 +8,7 @@ use lib.Dec.{eqb}
 use lib.ListN.{length}
 use borrow.Author.Tests.{eq-eqb, ne-eqb}
 use Rattle.base.specs.Sets.{add1}
-use Rattle.base.proofs.Truth.{or-l}
+use Rattle.base.proofs.Truth.{or-l, or-swap}
 use Rattle.rules.specs.declared.Entry.{Entry}
 use Rattle.rules.specs.declared.Entry.the-variants.{Hash}
 use Rattle.rules.specs.Bag.{sameEntry, entryAt}
@@ -43,16 +43,11 @@ told-from H i zero (a ∷ l) k p B = rw (here, told-ext (add1 (i + 0) H) H (suc 
     go true false z = refl
     go false false z = refl
 told-from H i (suc e) (a ∷ l) k p B = rw (at-other i (i + suc e) H (ne-eqb i (i + suc e) (λ q. omega arith)), rest (told-from H (suc i) e l k p B))
-    (go (H i && sameEntry (Hash k p B) a) (sameEntry (Hash k p B) (entryAt l e)) (told H (suc i) l k p B))
+    (or-swap (H i && sameEntry (Hash k p B) a) (sameEntry (Hash k p B) (entryAt l e)) (told H (suc i) l k p B))
   where
     rest : told (add1 (suc i + e) H) (suc i) l k p B ≡ (sameEntry (Hash k p B) (entryAt l e) || told H (suc i) l k p B)
         → told (add1 (i + suc e) H) (suc i) l k p B ≡ (sameEntry (Hash k p B) (entryAt l e) || told H (suc i) l k p B)
     rest r = subst (λ (c : ℕ). told (add1 c H) (suc i) l k p B ≡ (sameEntry (Hash k p B) (entryAt l e) || told H (suc i) l k p B)) (omega arith) r
-
-    go : (x y z : Bool) → (x || (y || z)) ≡ (y || (x || z))
-    go true true z = refl
-    go true false z = refl
-    go false y z = refl
 
 -- hearing entry e
 pub told-hear : (H : ℕ → Bool) (e : ℕ) (l : List Entry) (k p B : ℕ) → told (add1 e H) 0 l k p B ≡ (sameEntry (Hash k p B) (entryAt l e) || told H 0 l k p B)
