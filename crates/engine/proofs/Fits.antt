@@ -4,13 +4,11 @@ use native.Mathlib.Nat.{pow-le-pow-right, zero-lt-suc}
 use native.Mathlib.Omega.{arith}
 use native.Mathlib.Decide.{decLt}
 use mathlib.Core.Bool.{Bool, true, false}
-use mathlib.Core.List.{_∷_}
-use mathlib.Core.Path.{_≡_, refl, subst}
+use mathlib.Core.Path.{_≡_, refl}
 use borrow.Author.Tests.{eq-eqb}
 use Rattle.base.proofs.Truth.{split}
 use Rattle.rules.specs.declared.Entry.{Entry}
 use Rattle.rules.specs.declared.Entry.the-variants.{Hash, Backing, Board}
-use Rattle.rules.specs.Bag.{entryAt, signerOf, periodOf, boardOf}
 use Rattle.rules.specs.Valid.{Valid, InTable}
 use Rattle.state.specs.declared.Fact.{Fact}
 use Rattle.state.specs.declared.Fact.the-variants.{Posted, Signed, Shared, Receipted, Held, Known, Heard}
@@ -29,7 +27,7 @@ use Rattle.view.specs.View.{tableOf, stateOf}
 use Rattle.view.specs.Good.{Good}
 use Rattle.view.proofs.Meets.{hash-below}
 use Rattle.view.specs.Ready.{Room}
-use Rattle.view.proofs.Heard.{number-told}
+use Rattle.view.proofs.Heard.{hearer}
 
 module _ (h : Head) (clash : ℕ → ℕ → Bool) (room : Room h) (c : Contents) (G : Good (tableOf h clash) c) where
   abbrev W : Valid (tableOf h clash) (stateOf c)
@@ -41,11 +39,6 @@ module _ (h : Head) (clash : ℕ → ℕ → Bool) (room : Room h) (c : Contents
   cell : {p x : ℕ} → (p < h .periods) × (x < h .items) → (p < periods) × (x < items)
   cell {p} {x} q = (omega (arith, q .0, room .periods), omega (arith, q .1, room .items))
 
-  hearer : (j e : ℕ) → c .has (Heard j e) ≡ true → (1 ≤ j) × (j ≤ h .n)
-  hearer j e q =
-      let a = entryAt (c .bag) e in
-      W .heard j (signerOf a) (periodOf a) (boardOf a) (number-told (λ a. c .has (Heard j a)) 0 e (c .bag) (subst (λ (x : ℕ). c .has (Heard j x) ≡ true) (omega arith) q) (G .sound .hears j e q)) .0
-
   within : (f : Fact) → c .has f ≡ true → Within f
   within (Posted i) q = omega (arith, W .sets .posts i q, room .items)
   within (Signed k p i) q = let v = W .sets .signs k p i q in (peer (v .0), cell (v .1))
@@ -53,7 +46,7 @@ module _ (h : Head) (clash : ℕ → ℕ → Bool) (room : Room h) (c : Contents
   within (Receipted p i) q = cell (W .sets .receipts p i q)
   within (Held j p i) q = let v = W .sets .holds j p i q in (peer (v .0), cell (v .1))
   within (Known j p i k) q = let v = W .sets .knows j p i k q in (peer (v .0 .0), (peer (v .1), cell (v .0 .1)))
-  within (Heard j e) q = (peer (hearer j e q), omega (arith, hash-below (c .bag) e (G .sound .hears j e q), W .bag .size))
+  within (Heard j e) q = (peer (hearer _ c G j e q), omega (arith, hash-below (c .bag) e (G .sound .hears j e q), W .bag .size))
 
   small : (n : Number) → c .number n < 256
   small (OpenOf j) = omega (arith, W .counters .opens j, room .periods)

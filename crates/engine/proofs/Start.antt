@@ -1,10 +1,9 @@
 -- The fresh state is ready, and holds nothing.
-use Prim.Native.Nat.{ℕ, _<_}
-use native.Mathlib.Decide.{decLt}
+use Prim.Native.Nat.{ℕ}
 use native.Mathlib.Omega.{arith}
 use mathlib.Core.Bool.{Bool}
 use mathlib.Core.Path.{_≡_, refl, sym, ap, subst, _∙_}
-use lib.ListN.{length, replicate, length-replicate, getD-replicate, List·getD-eq-default}
+use lib.ListN.{length}
 use Rattle.base.specs.Bytes.{byteAt}
 use Rattle.base.proofs.Truth.{false-true}
 use Rattle.rules.specs.State.{fresh}
@@ -18,7 +17,8 @@ use Rattle.view.specs.View.{told, tableOf, stateOf}
 use Rattle.view.specs.Good.{Good}
 use Rattle.view.specs.Ready.{Room, Ready}
 use Rattle.engine.specs.Engine.{freshState}
-use Rattle.engine.proofs.Zeros.{zeros-length, zeros-at}
+use Rattle.base.proofs.Bytes.{zeros-at}
+use Rattle.engine.proofs.Zeros.{zeros-length}
 
 fresh-length : length freshState ≡ size
 unfolding freshState

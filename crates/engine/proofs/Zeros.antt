@@ -1,24 +1,17 @@
 -- The loop that writes 0 in every byte: none yet, one more, all.
 use Prim.Native.Nat.{ℕ, _+_, _<_, _≤_}
-use native.Mathlib.Decide.{ℕ-discrete, decLt}
+use native.Mathlib.Decide.{ℕ-discrete}
 use native.Mathlib.Omega.{arith}
 use mathlib.Core.List.{List}
 use mathlib.Core.Path.{_≡_, refl, sym, _∙_}
-use lib.ListN.{length, set, replicate, length-set, length-replicate, getD-replicate, List·getD-eq-default}
+use lib.ListN.{length, set, replicate, length-set, length-replicate}
 use lib.Seq.{ext-getD, getD-set-same, getD-set-other}
 use Rattle.base.specs.Bytes.{byteAt}
+use Rattle.base.proofs.Bytes.{zeros-at}
 
--- a list of zeros has its length, and 0 at every place
-
+-- a list of zeros has its length
 pub zeros-length : (n : ℕ) → length (replicate {A = ℕ} n 0) ≡ n
 zeros-length n = length-replicate {A = ℕ} n 0
-
-pub zeros-at : (n i : ℕ) → byteAt (replicate n 0) i ≡ 0
-zeros-at n i = go (decLt i n)
-  where
-    go : Dec (i < n) → byteAt (replicate n 0) i ≡ 0
-    go (yes l) = getD-replicate n i 0 0 l
-    go (no l) = List·getD-eq-default (replicate n 0) 0 (omega (arith, zeros-length n))
 
 -- the first i bytes are 0, and the length is what it was
 pub record Cleared (s₀ s : List ℕ) (i : ℕ) : Type 0 where

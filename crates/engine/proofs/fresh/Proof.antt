@@ -21,8 +21,9 @@ same-length c = search needs
 
 returns-3 : tie.Need-returns-3
 returns-3 c =
-    let table = c .before .before .before .before .before .before .check-table .ensures in
-    fresh-made _ table (c .before .before .before .before .before .if1 .left) _ _ (c .before .before .before .before .if2 .left) (c .before .before .clear .ensures)
+    let length = c .before .before .before .before in
+    let table = length .before in
+    fresh-made _ (table .before .check-table .ensures) (table .if1 .left) _ _ (length .if2 .left) (c .before .before .clear .ensures)
 
 pub fresh-spec : {M : Type 1} → statement M
 fresh-spec =
