@@ -1,18 +1,16 @@
 -- The report from its parts, and the three ways in which a rehearsal ends.
-use Prim.Native.Nat.{ℕ, _+_, _^_, _≤_, _<_}
+use Prim.Native.Nat.{ℕ, _≤_}
 use native.Mathlib.Omega.{arith}
-use mathlib.Core.Bool.{Bool, true, false}
-use mathlib.Core.List.{List, []}
-use mathlib.Core.Path.{_≡_, refl, sym, ap, subst, _∙_}
+use mathlib.Core.List.{List}
+use mathlib.Core.Path.{_≡_, ap, subst, _∙_}
 use lib.ListN.{length, replicate}
 use borrow.Author.Tests.{eq-eqb, ne-eqb}
 use Rattle.header.specs.Header.{peersOf, thresholdOf, honestCount}
-use Rattle.clash.specs.Clash.{clashIn, RowsOf}
+use Rattle.clash.specs.Clash.{RowsOf}
 use Rattle.ballot.specs.Table.{refusal}
 use Rattle.state.specs.Layout.{size}
 use Rattle.state.specs.Contents.{contents, Canon}
 use Rattle.view.specs.declared.Head.{Head}
-use Rattle.view.specs.Ready.{Ready}
 use Rattle.engine.specs.Engine.{headOf, freshState}
 use Rattle.text.specs.Wrote.{over, Wrote}
 use Rattle.text.proofs.Writing.{_▷_, renamed}

@@ -2,9 +2,9 @@
 use Prim.Native.Nat.{ℕ, _+_, _*_, _≤_, _<_}
 use native.Mathlib.Omega.{arith}
 use mathlib.Core.Bool.{Bool, true, false, cond}
-use mathlib.Core.List.{List, [], _∷_, _++_}
+use mathlib.Core.List.{List, [], _∷_}
 use mathlib.Core.Logic.{_⊎_, inl, inr}
-use mathlib.Core.Path.{_≡_, refl, sym, _∙_}
+use mathlib.Core.Path.{_≡_}
 use lib.Dec.{eqb}
 use lib.ListN.{length, length-append}
 use borrow.Author.Tests.{eqb-true}
@@ -12,7 +12,6 @@ use Rattle.base.specs.Refusals.{Refusals, first}
 use Rattle.base.proofs.Truth.{either}
 use Rattle.header.specs.Header.{peersOf, thresholdOf, honestCount}
 use Rattle.clash.specs.Clash.{clashIn}
-use Rattle.ballot.specs.Table.{tableRefusals}
 use Rattle.header.proofs.Fields.{honest-most}
 use Rattle.ballot.proofs.Sound.{sound}
 use Rattle.rules.specs.declared.Step.{Step}
@@ -29,7 +28,7 @@ use Rattle.engine.specs.Engine.{headOf, boardTable, stepAnswer}
 use Rattle.engine.proofs.Fits.{good-fits}
 use Rattle.engine.proofs.Steps.{step-answers}
 use Rattle.text.specs.Wrote.{each}
-use Rattle.report.specs.Lines.{refusedLine, headLine, stepLine}
+use Rattle.report.specs.Lines.{refusedLine, headLine}
 use Rattle.report.specs.State.{stateLines}
 use Rattle.report.proofs.Sizes.{each-most, refused-most, head-most, step-most, state-most}
 use Rattle.rehearsal.specs.Input.{tableIn, inputRefusals, inputRefusal, stepCount, callAt}

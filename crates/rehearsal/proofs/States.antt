@@ -4,16 +4,15 @@ use native.Mathlib.Numerals.{add-one}
 use native.Mathlib.Nat.{le-antisymm}
 use native.Mathlib.Omega.{arith}
 use mathlib.Core.List.{List}
-use mathlib.Core.Path.{_≡_, refl, sym, ap, ap₂, subst, subst₂, _∙_}
+use mathlib.Core.Path.{_≡_, refl, sym, ap, subst, subst₂, _∙_}
 use lib.ListN.{length}
-use Rattle.state.specs.Layout.{size}
 use Rattle.view.specs.declared.Head.{Head}
 use Rattle.view.specs.Ready.{Ready}
-use Rattle.engine.specs.Engine.{headOf, Prepared, stepAnswer, stepBytes, freshState}
+use Rattle.engine.specs.Engine.{headOf, stepAnswer, stepBytes}
 use Rattle.engine.proofs.Calls.{room-of}
 use Rattle.engine.proofs.Start.{fresh-ready}
 use Rattle.engine.proofs.Steps.{step-leaves}
-use Rattle.text.specs.Wrote.{Wrote, each}
+use Rattle.text.specs.Wrote.{Wrote}
 use Rattle.text.proofs.Writing.{each-none, each-more, renamed}
 use Rattle.report.specs.Lines.{stepLine}
 use Rattle.rehearsal.specs.Input.{inputMost, tableIn, stepCount, callAt}
@@ -58,5 +57,5 @@ none-ran e = record { state = e; lines = each-none _ }
 pub more-ran : {input s t was mid is : List ℕ} {at to next k : ℕ} → Ran input k s was at mid to → RanOne input k t mid to is next → Ran input (k + 1) t was at is next
 more-ran {input} {s} {t} {was} {mid} {is} {at} {to} {next} {k} all one = record { state = one .state; lines = each-more (stepAt input) k (all .lines) (one .line) }
 
-pub all-ran : {input s was is : List ℕ} {at to k : ℕ} (n : ℕ) → k ≤ n → n ≤ k → Ran input k s was at is to → Ran input n s was at is to
-all-ran {input} {s} {was} {is} {at} {to} {k} n p q all = subst (λ (i : ℕ). Ran input i s was at is to) (le-antisymm p q) all
+pub all-ran : {input s was is : List ℕ} {at to k n m : ℕ} → Ran input k s was at is to → k ≤ n → n ≤ k → n ≡ m → Ran input m s was at is to
+all-ran {input} {s} {was} {is} {at} {to} {k} all p q e = subst (λ (i : ℕ). Ran input i s was at is to) (le-antisymm p q ∙ e) all

@@ -40,7 +40,7 @@ inputRefusal input = first (inputRefusals input)
 
 -- how many steps there are: a short tail is one
 unfoldable pub stepCount : List ℕ → ℕ
-stepCount input = (length input - tableEnd input + 12) / stepSize
+stepCount input = (length input - tableEnd input + (stepSize - 1)) / stepSize
 
 -- the bytes of step k, counted from 0
 unfoldable pub callAt : List ℕ → ℕ → List ℕ

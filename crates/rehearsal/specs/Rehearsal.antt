@@ -1,6 +1,6 @@
 -- The rehearsal of document 01: each step runs on the state that the one before it left, and the report tells the answers and what is held at the end.
 use Prim.Native.Nat.{ℕ, zero, suc, _+_}
-use mathlib.Core.Bool.{Bool, cond, _&&_}
+use mathlib.Core.Bool.{cond, _&&_}
 use mathlib.Core.List.{List, [], _++_}
 use lib.Dec.{eqb}
 use lib.ListN.{length}

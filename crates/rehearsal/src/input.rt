@@ -5,6 +5,7 @@ ghost use lib.ListN.{length};
 ghost use Rattle.rehearsal.specs.Input.{inputMost, tableEnd, tableIn, tableThere, inputRefusal, stepCount, callAt};
 use crate::INPUT_MOST;
 
+// The bytes of a step.
 const STEP_SIZE: usize = 13;
 
 // Where the table ends.
@@ -53,7 +54,7 @@ pub fn step_count(input: &[u8]) -> usize
     requires { ⌜ length (now input) ≤ inputMost ⌝ }
     ensures { λ r. ⌜ r ≡ stepCount (now (input .entry)) ⌝ }
 {
-    (input.len() - table_end(input) + 12) / STEP_SIZE
+    (input.len() - table_end(input) + (STEP_SIZE - 1)) / STEP_SIZE
 }
 
 // The bytes of step k, counted from 0, of an input whose table ends at `start`.

@@ -10,6 +10,9 @@ table-end-requires c κs = search needs
 sub-result : tie.Need-sub-result
 sub-result c = search needs
 
+sub-result-2 : tie.Need-sub-result-2
+sub-result-2 c = search needs
+
 add-result : tie.Need-add-result
 add-result c = search needs
 
@@ -18,4 +21,4 @@ unfolding stepCount
 returns c = simp (c .table-end .ensures)
 
 pub step-count-spec : {M : Type 1} → statement M
-step-count-spec = tie.close (tie.spec table-end-requires sub-result add-result returns)
+step-count-spec = tie.close (tie.spec table-end-requires sub-result sub-result-2 add-result returns)

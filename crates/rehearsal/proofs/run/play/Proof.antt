@@ -23,13 +23,7 @@ slice-aggregate-run : tie.Need-slice-aggregate-run
 slice-aggregate-run c = search needs
 
 run-requires : tie.Need-run-requires
-run-requires c κs =
-    let first = c .before .before .before .before .before in
-    let clear = first .before .before .before .before .before in
-    let rows = clear .before .before in
-    let head = rows .before in
-    let given = head .before .before .before .before .before .pre in
-    (made (given .0) (given .1) (head .head-of .ensures) (rows .clash-rows .ensures), cleared _ _ _ (given .2) (clear .clear .ensures))
+run-requires c κs = (search made, search cleared)
 
 put-state-requires : tie.Need-put-state-requires
 put-state-requires c κs =

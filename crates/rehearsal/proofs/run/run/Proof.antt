@@ -22,11 +22,7 @@ loop-holds : tie.Need-loop-holds Inv-loop μ-loop
 loop-holds c = (search needs, search none-ran)
 
 run-one-requires : tie.Need-run-one-requires Inv-loop μ-loop
-run-one-requires c κs =
-    let turn = c .before .before in
-    let counted = turn .before .before in
-    let given = counted .before .before .before .before .before .before .before .pre in
-    (given .0, counted .before .table-end .ensures, few-steps (given .0 .taken) (counted .step-count .ensures) (turn .loop-test .taken), turn .before .loop .inv .1 .state)
+run-one-requires c κs = search few-steps
 
 add-k : tie.Need-add-k Inv-loop μ-loop
 add-k c = search needs
@@ -35,23 +31,16 @@ loop-less : tie.Need-loop-less Inv-loop μ-loop
 loop-less c = search needs
 
 loop-again : tie.Need-loop-again Inv-loop μ-loop
-loop-again c =
-    let ran = c .before .before .before .before in
-    (search needs, more-ran (ran .before .before .before .before .loop .inv .1) (ran .run-one .ensures))
+loop-again c = (search needs, search more-ran)
 
 same-length : tie.Need-same-length Inv-loop μ-loop
-same-length c =
-    let counted = c .before .before in
-    let given = counted .before .before .before .before .before .before .before .pre in
-    same-long _ (given .0 .taken) _ _ (c .before .loop .inv .1 .state) (given .1)
+same-length c = search same-long
 
 same-length-2 : tie.Need-same-length-2 Inv-loop μ-loop
-same-length-2 c = c .before .loop .inv .1 .lines .long
+same-length-2 c = search needs
 
 returns : tie.Need-returns Inv-loop μ-loop
-returns c =
-    let done = c .before in
-    all-ran _ (search needs) (search needs) (done .loop .inv .1)
+returns c = search all-ran
 
 pub run-spec : {M : Type 1} → statement M
 run-spec =

@@ -25,12 +25,7 @@ same-length-2 : tie.Need-same-length-2
 same-length-2 c = search needs
 
 returns : tie.Need-returns
-returns c =
-    let line = c .before .before in
-    let step = line .before .before .before .before in
-    let call = step .before in
-    let given = call .before .before .before .before .before .before .before .pre in
-    one-ran (given .0) _ (given .3) (call .call-at .ensures) (step .run-step .ensures) (line .put-step .ensures)
+returns c = search one-ran
 
 pub run-one-spec : {M : Type 1} → statement M
 run-one-spec =
