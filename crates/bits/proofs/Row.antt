@@ -75,3 +75,8 @@ bytes-put s a h = bytes-set s (a / 8) _ h (or-lt 8 (byteAt s (a / 8)) (2 ^ (a % 
 -- the machine's shift of 1 by k at w bits
 pub shl-one : (w k : ℕ) → k < w → (1 * 2 ^ k) % 2 ^ w ≡ 2 ^ k
 shl-one w k h = rw (one-mul (2 ^ k)) (mod-eq-of-lt (pow-lt h))
+
+-- a byte joined with the machine's shift of 1
+pub is-put : (s : List ℕ) (a w : ℕ) → w ≡ (1 * 2 ^ (a % 8)) % 2 ^ 8 → set s (a / 8) (bitOr (byteAt s (a / 8)) w) ≡ putBit s a
+unfolding putBit
+is-put s a w e = rw (e, shl-one 8 (a % 8) (omega arith))

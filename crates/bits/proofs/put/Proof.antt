@@ -1,8 +1,6 @@
 -- A byte joined with 1 shifted by a % 8 is the byte with that bit set.
-use Prim.Native.Nat.{_%_}
-use native.Mathlib.Omega.{arith}
-use Rattle.bits.specs.Row.{putBit}
-use Rattle.bits.proofs.Row.{shl-one}
+use mathlib.Core.Path.{refl}
+use Rattle.bits.proofs.Row.{is-put}
 use borrow.Author.Needs.{needs}
 use Rattle.bits.proofs.put.Statement.{statement}
 use Rattle.bits.proofs.put.Tie as tie
@@ -23,8 +21,7 @@ same-length : tie.Need-same-length
 same-length c = search needs
 
 returns : tie.Need-returns
-unfolding putBit
-returns c = rw (shl-one 8 (c .before .args .a % 8) (omega arith))
+returns c = is-put _ _ _ refl
 
 pub put-spec : {M : Type 1} → statement M
 put-spec = tie.close (tie.spec slice-read-s cast-s shl-s slice-write-s same-length returns)
