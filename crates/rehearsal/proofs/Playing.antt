@@ -26,25 +26,23 @@ pub cleared : (input t : List ℕ) (n : ℕ) → n ≡ size → t ≡ replicate 
 unfolding stateAt freshState
 cleared input t n long zeros = zeros ∙ ap (λ (k : ℕ). replicate k 0) long
 
-module _ {input table : List ℕ} {h : Head} {rows : List ℕ} (T : Taken input) (cut : table ≡ tableIn input) (head : h ≡ headOf table) (clashes : RowsOf table rows) where
-  pub made : Made input table h rows
-  made = record { taken = T; cut = cut; prepared = record { taken = ap refusal cut ∙ T .table; head = head; clashes = clashes } }
+pub made : {input table : List ℕ} {h : Head} {rows : List ℕ} → Taken input → table ≡ tableIn input → h ≡ headOf table → RowsOf table rows → Made input table h rows
+made T cut head clashes = record { taken = T; cut = cut; prepared = record { taken = ap refusal cut ∙ T .table; head = head; clashes = clashes } }
 
-  module _ {a b : ℕ} {s mid more : List ℕ} (ran : Ran input (stepCount input) s mid a more b) where
-    pub showable : Canon s × (h .n ≤ 16) × (h .items ≤ 64)
-    showable =
-        let R = ready-now made (stepCount input) (ran .state) in
-        (R .canon, R .room .peers, R .room .items)
+-- the steps were run
+module _ {input table : List ℕ} {h : Head} {rows : List ℕ} (M : Made input table h rows) {a b : ℕ} {s mid more : List ℕ} (ran : Ran input (stepCount input) s mid a more b) where
+  pub showable : Canon s × (h .n ≤ 16) × (h .items ≤ 64)
+  showable = let R = ready-now M (stepCount input) (ran .state) in (R .canon, R .room .peers, R .room .items)
 
-    first-line : (n : ℕ) → n ≡ honestCount table → headLine (h .n) (h .t) n ≡ headLine (peersOf (tableIn input)) (thresholdOf (tableIn input)) (honestCount (tableIn input))
-    first-line n honest = rw (head, honest, cut)
+  first-line : (n : ℕ) → n ≡ honestCount table → headLine (h .n) (h .t) n ≡ headLine (peersOf (tableIn input)) (thresholdOf (tableIn input)) (honestCount (tableIn input))
+  first-line n honest = rw (M .prepared .head, honest, M .cut)
 
-    state-shown : stateLines h (contents s) ≡ stateLines (headOf (tableIn input)) (contents (stateAt input (stepCount input)))
-    state-shown = rw (head, cut, ran .state)
+  state-shown : stateLines h (contents s) ≡ stateLines (headOf (tableIn input)) (contents (stateAt input (stepCount input)))
+  state-shown = rw (M .prepared .head, M .cut, ran .state)
 
-    pub played : {n to : ℕ} {out is : List ℕ} → n ≡ honestCount table → Wrote out 0 (headLine (h .n) (h .t) n) mid a → Wrote more b (stateLines h (contents s)) is to → (s ≡ lastState input) × Wrote out 0 (reportOf input) is to
-    unfolding lastState reportOf
-    played {n} honest first shown = (ran .state, renamed (first-line n honest) first ▷ ran .lines ▷ renamed state-shown shown)
+  pub whole-report : {n to : ℕ} {out is : List ℕ} → n ≡ honestCount table → Wrote out 0 (headLine (h .n) (h .t) n) mid a → Wrote more b (stateLines h (contents s)) is to → (s ≡ lastState input) × Wrote out 0 (reportOf input) is to
+  unfolding lastState reportOf
+  whole-report {n} honest first shown = (ran .state, renamed (first-line n honest) first ▷ ran .lines ▷ renamed state-shown shown)
 
 -- what `rehearse` promises
 abbrev pub Promised : List ℕ → List ℕ → List ℕ → List ℕ → List ℕ → ℕ → Type 0

@@ -60,6 +60,16 @@ fn run(
     to
 }
 
+// The report of a table that was read and of the steps run from the fresh state, and the state that they lead to.
+fn tell(input: &[u8], table: &[u8], h: Head, rows: &[u64], s: &mut [u8], out: &mut [u8]) -> usize
+    requires { ⌜ Made (now input) (now table) h (now rows) × (now s ≡ stateAt (now input) 0) ⌝ }
+    ensures { λ to. ⌜ (now (s .exit) ≡ lastState (now (input .entry))) × Wrote (now (out .entry)) 0 (reportOf (now (input .entry))) (now (out .exit)) to ⌝ }
+{
+    let a = put_head(out, 0, h.n, h.t, honest_count(table));
+    let b = run(input, table, h, rows, s, out, a);
+    put_state(out, b, s, h)
+}
+
 // The report of an input that is not refused, and the state that its steps lead to.
 pub fn play(input: &[u8], table: &[u8], s: &mut [u8], out: &mut [u8]) -> usize
     requires { ⌜ Taken (now input) × (now table ≡ tableIn (now input)) × (length (now s) ≡ size) ⌝ }
@@ -68,7 +78,5 @@ pub fn play(input: &[u8], table: &[u8], s: &mut [u8], out: &mut [u8]) -> usize
     let h = engine::head_of(table);
     let rows = clash_rows(table);
     engine::clear(s);
-    let a = put_head(out, 0, h.n, h.t, honest_count(table));
-    let b = run(input, table, h, &rows, s, out, a);
-    put_state(out, b, s, h)
+    tell(input, table, h, &rows, s, out)
 }

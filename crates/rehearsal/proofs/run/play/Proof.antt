@@ -1,5 +1,5 @@
--- The first line, the steps and what they leave, by `played`.
-use Rattle.rehearsal.proofs.Playing.{cleared, made, showable, played}
+-- The table and its clashes are read, and the state is cleared: what `tell` asks.
+use Rattle.rehearsal.proofs.Playing.{cleared, made}
 use borrow.Author.Needs.{needs}
 use Rattle.rehearsal.proofs.run.play.Statement.{statement}
 use Rattle.rehearsal.proofs.run.play.Tie as tie
@@ -13,26 +13,11 @@ clash-rows-requires c κs = search needs
 clear-requires : tie.Need-clear-requires
 clear-requires c κs = search needs
 
-honest-count-requires : tie.Need-honest-count-requires
-honest-count-requires c κs = search needs
+slice-aggregate-tell : tie.Need-slice-aggregate-tell
+slice-aggregate-tell c = search needs
 
-put-head-requires : tie.Need-put-head-requires
-put-head-requires c κs = search needs
-
-slice-aggregate-run : tie.Need-slice-aggregate-run
-slice-aggregate-run c = search needs
-
-run-requires : tie.Need-run-requires
-run-requires c κs = (search made, search cleared)
-
-put-state-requires : tie.Need-put-state-requires
-put-state-requires c κs =
-    let steps = c .before .before .before .before .before .before in
-    let first = steps .before .before .before .before .before .before in
-    let rows = first .before .before .before .before .before .before .before in
-    let head = rows .before in
-    let given = head .before .before .before .before .before .pre in
-    showable (given .0) (given .1) (head .head-of .ensures) (rows .clash-rows .ensures) (steps .run .ensures)
+tell-requires : tie.Need-tell-requires
+tell-requires c κs = (search made, search cleared)
 
 same-length : tie.Need-same-length
 same-length c = search needs
@@ -41,14 +26,7 @@ same-length-2 : tie.Need-same-length-2
 same-length-2 c = search needs
 
 returns : tie.Need-returns
-returns c =
-    let shown = c .before .before in
-    let steps = shown .before .before .before .before .before .before .before in
-    let first = steps .before .before .before .before .before .before in
-    let rows = first .before .before .before .before .before .before .before in
-    let head = rows .before in
-    let given = head .before .before .before .before .before .pre in
-    played (given .0) (given .1) (head .head-of .ensures) (rows .clash-rows .ensures) (steps .run .ensures) (first .before .honest-count .ensures) (first .put-head .ensures) (shown .put-state .ensures)
+returns c = search needs
 
 pub play-spec : {M : Type 1} → statement M
 play-spec =
@@ -57,11 +35,8 @@ play-spec =
     head-of-requires
     clash-rows-requires
     clear-requires
-    honest-count-requires
-    put-head-requires
-    slice-aggregate-run
-    run-requires
-    put-state-requires
+    slice-aggregate-tell
+    tell-requires
     same-length
     same-length-2
     returns)

@@ -1,0 +1,46 @@
+-- The first line, the steps and what they leave, by `whole-report`.
+use Rattle.rehearsal.proofs.Playing.{showable, whole-report}
+use borrow.Author.Needs.{needs}
+use Rattle.rehearsal.proofs.run.tell.Statement.{statement}
+use Rattle.rehearsal.proofs.run.tell.Tie as tie
+
+honest-count-requires : tie.Need-honest-count-requires
+honest-count-requires c κs = search needs
+
+put-head-requires : tie.Need-put-head-requires
+put-head-requires c κs = search needs
+
+run-requires : tie.Need-run-requires
+run-requires c κs = search needs
+
+put-state-requires : tie.Need-put-state-requires
+put-state-requires c κs =
+    let steps = c .before .before .before .before .before .before in
+    let given = steps .before .before .before .before .before .before .before .before .before .before .before .before .before .pre in
+    showable (given .0) (steps .run .ensures)
+
+same-length : tie.Need-same-length
+same-length c = search needs
+
+same-length-2 : tie.Need-same-length-2
+same-length-2 c = search needs
+
+returns : tie.Need-returns
+returns c =
+    let shown = c .before .before in
+    let steps = shown .before .before .before .before .before .before .before in
+    let first = steps .before .before .before .before .before in
+    let given = first .before .before .before .before .before .before .before .before .pre in
+    whole-report (given .0) (steps .run .ensures) (first .before .honest-count .ensures) (first .put-head .ensures) (shown .put-state .ensures)
+
+pub tell-spec : {M : Type 1} → statement M
+tell-spec =
+    tie.close
+    (tie.spec
+    honest-count-requires
+    put-head-requires
+    run-requires
+    put-state-requires
+    same-length
+    same-length-2
+    returns)
