@@ -13,7 +13,7 @@ use Rattle.rules.specs.Valid.{Valid, InTable}
 use Rattle.state.specs.declared.Fact.{Fact}
 use Rattle.state.specs.declared.Fact.the-variants.{Posted, Signed, Shared, Receipted, Held, Known, Heard}
 use Rattle.state.specs.declared.Number.{Number}
-use Rattle.state.specs.declared.Number.the-variants.{OpenOf, NextOf, DownOf}
+use Rattle.state.specs.declared.Number.the-variants.{CurrentOf, ToBackOf, DownOf}
 use Rattle.state.specs.Layout.{peers, periods, items, entries, itemBytes}
 use Rattle.state.specs.Facts.{isPeer, Within, Peer}
 use Rattle.state.specs.Numbers.{peerOf}
@@ -49,14 +49,14 @@ module _ (h : Head) (clash : ℕ → ℕ → Bool) (room : Room h) (c : Contents
   within (Heard j e) q = (peer (hearer _ c G j e q), omega (arith, hash-below (c .bag) e (G .sound .hears j e q), W .bag .size))
 
   small : (n : Number) → c .number n < 256
-  small (OpenOf j) = omega (arith, W .counters .opens j, room .periods)
-  small (NextOf j) = omega (arith, W .counters .behind j, W .counters .opens j, room .periods)
+  small (CurrentOf j) = omega (arith, W .counters .opens j, room .periods)
+  small (ToBackOf j) = omega (arith, W .counters .behind j, W .counters .opens j, room .periods)
   small (DownOf j) = omega (arith, G .sound .flags j)
 
-  no-open : (j : ℕ) → isPeer j ≡ false → c .number (OpenOf j) ≡ 0
-  no-open j e = go (decLt 0 (c .number (OpenOf j)))
+  no-open : (j : ℕ) → isPeer j ≡ false → c .number (CurrentOf j) ≡ 0
+  no-open j e = go (decLt 0 (c .number (CurrentOf j)))
     where
-      go : Dec (0 < c .number (OpenOf j)) → c .number (OpenOf j) ≡ 0
+      go : Dec (0 < c .number (CurrentOf j)) → c .number (CurrentOf j) ≡ 0
       go (yes q) = split (within-peer j (peer (W .counters .peers j q))) e
       go (no q) = omega arith
 
@@ -68,8 +68,8 @@ module _ (h : Head) (clash : ℕ → ℕ → Bool) (room : Room h) (c : Contents
       go (no q) = omega arith
 
   others : (n : Number) → isPeer (peerOf n) ≡ false → c .number n ≡ 0
-  others (OpenOf j) e = no-open j e
-  others (NextOf j) e = omega (arith, W .counters .behind j, no-open j e)
+  others (CurrentOf j) e = no-open j e
+  others (ToBackOf j) e = omega (arith, W .counters .behind j, no-open j e)
   others (DownOf j) e = no-down j e
 
   board-small : (B : ℕ) → B < 2 ^ h .items → B < 256 ^ itemBytes

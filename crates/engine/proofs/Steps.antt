@@ -28,7 +28,7 @@ use Rattle.view.proofs.Keeps.{keeps-good}
 use Rattle.view.proofs.Whatever.{good-whatever}
 use Rattle.view.specs.Ready.{Ready}
 use Rattle.valid.proofs.Ready.{ok-of-ready}
-use Rattle.engine.specs.Engine.{headOf, boardTable, leaveOn, stepAnswer, stepBytes}
+use Rattle.engine.specs.Engine.{headOf, rulesTable, leaveOn, stepAnswer, stepBytes}
 use Rattle.engine.proofs.Fits.{good-fits}
 
 -- the bytes t are ready, and hold what the rules leave of s after the call
@@ -69,7 +69,7 @@ module _ (h : Head) (clash : ℕ → ℕ → Bool) (s : List ℕ) (R : Ready h s
       go (inr e) = rw e (refused st e)
 
 module _ (table : List ℕ) (fit : refusal table ≡ 0) (s : List ℕ) (R : Ready (headOf table) s) (step : List ℕ) where
-  pub step-answers : stepAnswer table s step ≡ reply (boardTable table) (stateOf (contents s)) (read step)
+  pub step-answers : stepAnswer table s step ≡ reply (rulesTable table) (stateOf (contents s)) (read step)
   unfolding stepAnswer
   step-answers = rw (fit, ok-of-ready (headOf table) s R)
 

@@ -26,8 +26,8 @@ abbrev pub headOf : List ℕ → Head
 headOf table = record { n = peersOf table; t = thresholdOf table; honest = honestOf table; periods = periodsOf table; items = itemsOf table }
 
 -- a table's bytes as the table of the rules
-abbrev pub boardTable : List ℕ → Table
-boardTable table = tableOf (headOf table) (clashIn table)
+abbrev pub rulesTable : List ℕ → Table
+rulesTable table = tableOf (headOf table) (clashIn table)
 
 -- what is made once of a table that is not refused: its header, and the first of its rows of clashes
 pub record Prepared (table : List ℕ) (h : Head) (rows : List ℕ) : Type 0 where
@@ -44,12 +44,12 @@ leaveOn T c Malformed = c
 unfoldable pub stepAnswer : List ℕ → List ℕ → List ℕ → ℕ
 stepAnswer table s step =
     cond (eqb (refusal table) 0)
-    (cond (stateOk (headOf table) s) (reply (boardTable table) (stateOf (contents s)) (read step)) 14)
+    (cond (stateOk (headOf table) s) (reply (rulesTable table) (stateOf (contents s)) (read step)) 14)
     (refusal table)
 
 -- a refused call alters nothing
 unfoldable pub stepBytes : List ℕ → List ℕ → List ℕ → List ℕ
-stepBytes table s step = cond (eqb (stepAnswer table s step) 0) (encode (leaveOn (boardTable table) (contents s) (read step))) s
+stepBytes table s step = cond (eqb (stepAnswer table s step) 0) (encode (leaveOn (rulesTable table) (contents s) (read step))) s
 
 -- fresh: the table's refusals 1 to 4, then the buffer's length only
 unfoldable pub freshAnswer : List ℕ → List ℕ → ℕ

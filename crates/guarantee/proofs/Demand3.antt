@@ -21,7 +21,7 @@ use Rattle.rules.proofs.Runs.{ruled}
 use Rattle.state.specs.Contents.{contents}
 use Rattle.view.specs.View.{stateOf}
 use Rattle.view.specs.Ready.{Ready}
-use Rattle.engine.specs.Engine.{headOf, boardTable, stepAnswer, stepBytes, freshState}
+use Rattle.engine.specs.Engine.{headOf, rulesTable, stepAnswer, stepBytes, freshState}
 use Rattle.engine.proofs.Calls.{room-of}
 use Rattle.engine.proofs.Start.{fresh-state, fresh-ready}
 use Rattle.engine.proofs.Steps.{step-answers, step-leaves}
@@ -29,7 +29,7 @@ use Rattle.guarantee.specs.Demand3.{HonestEnough, afterCalls, AlwaysSafe
 
 module _ (table : List ℕ) (fit : refusal table ≡ 0) where
   abbrev T : Table
-  T = boardTable table
+  T = rulesTable table
 
   -- the engine's calls are the rules' calls, from any state that is ready
   follows : (calls : List (List ℕ)) (s : List ℕ) (seen : List Fed) → Ready (headOf table) s
@@ -51,4 +51,4 @@ module _ (table : List ℕ) (fit : refusal table ≡ 0) where
   premise enough = counted T refl (sound table fit .threshold-rule) enough (clash-in-sym table) (clash-in-self table)
 
 pub demand-3-on-bytes : (table : List ℕ) → HonestEnough table → AlwaysSafe table
-demand-3-on-bytes table H calls = subst (λ (after : List (List ℕ) → World). Safe (boardTable table) after calls) (sym (fun-ext (as-ruled table (H .taken)))) (demand-3 (boardTable table) (premise table (H .taken) (H .honest)) calls)
+demand-3-on-bytes table H calls = subst (λ (after : List (List ℕ) → World). Safe (rulesTable table) after calls) (sym (fun-ext (as-ruled table (H .taken)))) (demand-3 (rulesTable table) (premise table (H .taken) (H .honest)) calls)

@@ -8,7 +8,7 @@ use Rattle.rules.specs.Run.{World, runFrom}
 use Rattle.rules.specs.Demand3.{Safe}
 use Rattle.state.specs.Contents.{contents}
 use Rattle.view.specs.View.{stateOf}
-use Rattle.engine.specs.Engine.{boardTable, stepAnswer, stepBytes, freshState}
+use Rattle.engine.specs.Engine.{rulesTable, stepAnswer, stepBytes, freshState}
 
 -- the table is taken, and at least t of its peers are honest
 pub record HonestEnough (table : List ℕ) : Type 0 where
@@ -21,4 +21,4 @@ afterCalls table calls = runFrom (λ s. stateOf (contents s)) (stepAnswer table)
 
 -- whatever the calls, of any bytes, the board is safe after them
 abbrev pub AlwaysSafe : List ℕ → Type 0
-AlwaysSafe table = (calls : List (List ℕ)) → Safe (boardTable table) (afterCalls table) calls
+AlwaysSafe table = (calls : List (List ℕ)) → Safe (rulesTable table) (afterCalls table) calls

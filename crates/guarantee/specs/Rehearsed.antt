@@ -6,7 +6,7 @@ use Rattle.rules.specs.Demand3.{Safe}
 use Rattle.state.specs.Tab.{tab}
 use Rattle.state.specs.Contents.{contents}
 use Rattle.view.specs.View.{stateOf}
-use Rattle.engine.specs.Engine.{boardTable}
+use Rattle.engine.specs.Engine.{rulesTable}
 use Rattle.rehearsal.specs.Input.{tableIn, stepCount, callAt}
 use Rattle.rehearsal.specs.Rehearsal.{lastState}
 use Rattle.guarantee.specs.Demand3.{afterCalls}
@@ -17,4 +17,4 @@ callsIn input = tab (stepCount input) (callAt input)
 -- what a report shows is what is held after its steps, and that is safe
 pub record ShownSafe (input : List ℕ) : Type 0 where
   pub shown : stateOf (contents (lastState input)) ≡ afterCalls (tableIn input) (callsIn input) .engine
-  pub safe : Safe (boardTable (tableIn input)) (afterCalls (tableIn input)) (callsIn input)
+  pub safe : Safe (rulesTable (tableIn input)) (afterCalls (tableIn input)) (callsIn input)

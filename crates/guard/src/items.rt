@@ -2,12 +2,12 @@
 ghost use mathlib.Core.Path.{_≡_};
 ghost use mathlib.Core.Bool.{not};
 ghost use Rattle.state.specs.declared.Fact.the-variants.{Posted, Signed, Held};
-ghost use Rattle.state.specs.declared.Number.the-variants.{OpenOf};
+ghost use Rattle.state.specs.declared.Number.the-variants.{CurrentOf};
 ghost use Rattle.state.specs.Contents.{contents, Canon};
 use state::facts::is_held;
 use state::facts::is_posted;
 use state::facts::is_signed;
-use state::numbers::open_of;
+use state::numbers::current_of;
 
 // Item x is not posted.
 pub fn not_posted(s: &[u8], x: u8) -> bool
@@ -20,9 +20,9 @@ pub fn not_posted(s: &[u8], x: u8) -> bool
 // Peer j does not hold item x in its open period.
 pub fn not_held(s: &[u8], j: u8, x: u8) -> bool
     requires { ⌜ Canon (now s) ⌝ }
-    ensures { λ r. ⌜ r ≡ not (contents (now (s .entry)) .has (Held j (contents (now (s .entry)) .number (OpenOf j)) x)) ⌝ }
+    ensures { λ r. ⌜ r ≡ not (contents (now (s .entry)) .has (Held j (contents (now (s .entry)) .number (CurrentOf j)) x)) ⌝ }
 {
-    !is_held(s, j, open_of(s, j), x)
+    !is_held(s, j, current_of(s, j), x)
 }
 
 // Peer k's signature on item x in period p is absent.

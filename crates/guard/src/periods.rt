@@ -2,11 +2,11 @@
 ghost use mathlib.Core.Path.{_≡_};
 ghost use lib.Dec.{eqb, ltb};
 ghost use Rattle.rules.specs.Rules.{noneOpen, notClosed};
-ghost use Rattle.state.specs.declared.Number.the-variants.{OpenOf, NextOf, DownOf};
+ghost use Rattle.state.specs.declared.Number.the-variants.{CurrentOf, ToBackOf, DownOf};
 ghost use Rattle.state.specs.Contents.{contents, Canon};
+use state::numbers::current_of;
 use state::numbers::down_of;
-use state::numbers::next_of;
-use state::numbers::open_of;
+use state::numbers::to_back_of;
 use view::Head;
 
 // Peer j is down.
@@ -20,31 +20,31 @@ pub fn is_down(s: &[u8], j: u8) -> bool
 // Peer j has no open period.
 pub fn none_open(s: &[u8], h: Head, j: u8) -> bool
     requires { ⌜ Canon (now s) ⌝ }
-    ensures { λ r. ⌜ r ≡ noneOpen (h .periods) (contents (now (s .entry)) .number (OpenOf j)) ⌝ }
+    ensures { λ r. ⌜ r ≡ noneOpen (h .periods) (contents (now (s .entry)) .number (CurrentOf j)) ⌝ }
 {
-    h.periods <= open_of(s, j)
+    h.periods <= current_of(s, j)
 }
 
 // Period p is beyond peer j's open one.
 pub fn beyond(s: &[u8], j: u8, p: u8) -> bool
     requires { ⌜ Canon (now s) ⌝ }
-    ensures { λ r. ⌜ r ≡ ltb (contents (now (s .entry)) .number (OpenOf j)) p ⌝ }
+    ensures { λ r. ⌜ r ≡ ltb (contents (now (s .entry)) .number (CurrentOf j)) p ⌝ }
 {
-    open_of(s, j) < p
+    current_of(s, j) < p
 }
 
 // Peer j has not closed period p.
 pub fn not_closed(s: &[u8], j: u8, p: u8) -> bool
     requires { ⌜ Canon (now s) ⌝ }
-    ensures { λ r. ⌜ r ≡ notClosed (contents (now (s .entry)) .number (OpenOf j)) p ⌝ }
+    ensures { λ r. ⌜ r ≡ notClosed (contents (now (s .entry)) .number (CurrentOf j)) p ⌝ }
 {
-    open_of(s, j) <= p
+    current_of(s, j) <= p
 }
 
 // Peer j has backed every period that it has closed.
 pub fn all_backed(s: &[u8], j: u8) -> bool
     requires { ⌜ Canon (now s) ⌝ }
-    ensures { λ r. ⌜ r ≡ notClosed (contents (now (s .entry)) .number (OpenOf j)) (contents (now (s .entry)) .number (NextOf j)) ⌝ }
+    ensures { λ r. ⌜ r ≡ notClosed (contents (now (s .entry)) .number (CurrentOf j)) (contents (now (s .entry)) .number (ToBackOf j)) ⌝ }
 {
-    open_of(s, j) <= next_of(s, j)
+    current_of(s, j) <= to_back_of(s, j)
 }

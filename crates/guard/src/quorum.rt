@@ -3,13 +3,13 @@ ghost use mathlib.Core.Path.{_≡_};
 ghost use mathlib.Core.Bool.{not};
 ghost use Rattle.rules.specs.Table.{quorum};
 ghost use Rattle.state.specs.declared.Fact.the-variants.{Shared, Known};
-ghost use Rattle.state.specs.declared.Number.the-variants.{OpenOf};
+ghost use Rattle.state.specs.declared.Number.the-variants.{CurrentOf};
 ghost use Rattle.state.specs.Contents.{contents};
 ghost use Rattle.view.specs.View.{noClash, tableOf};
 ghost use Rattle.view.specs.Ready.{Ready};
 use sets::sharer_count;
 use sets::signer_count;
-use state::numbers::open_of;
+use state::numbers::current_of;
 use view::Head;
 
 fn wide(x: u8) -> u32
@@ -21,9 +21,9 @@ fn wide(x: u8) -> u32
 // Peer j's database has fewer than t signers on item x in its open period.
 pub fn few_signers(s: &[u8], h: Head, j: u8, x: u8) -> bool
     requires { ⌜ Ready h (now s) ⌝ }
-    ensures { λ r. ⌜ r ≡ not (quorum (tableOf h noClash) (λ k. contents (now (s .entry)) .has (Known j (contents (now (s .entry)) .number (OpenOf j)) x k))) ⌝ }
+    ensures { λ r. ⌜ r ≡ not (quorum (tableOf h noClash) (λ k. contents (now (s .entry)) .has (Known j (contents (now (s .entry)) .number (CurrentOf j)) x k))) ⌝ }
 {
-    let count = signer_count(s, j, open_of(s, j), x);
+    let count = signer_count(s, j, current_of(s, j), x);
     count < wide(h.t)
 }
 

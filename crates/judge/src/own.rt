@@ -4,7 +4,7 @@ ghost use mathlib.Core.Bool.{not};
 ghost use Rattle.rules.specs.Table.{quorum};
 ghost use Rattle.rules.specs.declared.Entry.the-variants.{Hash, Backing};
 ghost use Rattle.rules.specs.Bag.{isFull};
-ghost use Rattle.state.specs.declared.Number.the-variants.{NextOf};
+ghost use Rattle.state.specs.declared.Number.the-variants.{ToBackOf};
 ghost use Rattle.state.specs.Contents.{contents};
 ghost use Rattle.view.specs.View.{noClash, tableOf, stateOf, boardOn};
 ghost use Rattle.view.specs.Ready.{Ready};
@@ -21,16 +21,16 @@ pub fn hash_full(s: &[u8], h: Head, j: u8, p: u8, board: u64) -> bool
 
 // Fewer than t signers among the hashes that peer j heard have its board of period c.
 pub fn few_heard_own(s: &[u8], h: Head, j: u8, c: u8, board: u64) -> bool
-    requires { ⌜ Ready h (now s) × (c ≡ contents (now s) .number (NextOf j)) × (board ≡ boardOn h (now s) j (contents (now s) .number (NextOf j))) ⌝ }
-    ensures { λ r. ⌜ r ≡ not (quorum (tableOf h noClash) (λ k. stateOf (contents (now (s .entry))) .heard j k (contents (now (s .entry)) .number (NextOf j)) (boardOn h (now (s .entry)) j (contents (now (s .entry)) .number (NextOf j))))) ⌝ }
+    requires { ⌜ Ready h (now s) × (c ≡ contents (now s) .number (ToBackOf j)) × (board ≡ boardOn h (now s) j (contents (now s) .number (ToBackOf j))) ⌝ }
+    ensures { λ r. ⌜ r ≡ not (quorum (tableOf h noClash) (λ k. stateOf (contents (now (s .entry))) .heard j k (contents (now (s .entry)) .number (ToBackOf j)) (boardOn h (now (s .entry)) j (contents (now (s .entry)) .number (ToBackOf j))))) ⌝ }
 {
     support::signers::few_heard(s, h, j, c, board)
 }
 
 // There is no room for peer j's backing of period c.
 pub fn backing_full(s: &[u8], h: Head, j: u8, c: u8, board: u64) -> bool
-    requires { ⌜ Ready h (now s) × (c ≡ contents (now s) .number (NextOf j)) × (board ≡ boardOn h (now s) j (contents (now s) .number (NextOf j))) ⌝ }
-    ensures { λ r. ⌜ r ≡ isFull (Backing j (contents (now (s .entry)) .number (NextOf j)) (boardOn h (now (s .entry)) j (contents (now (s .entry)) .number (NextOf j)))) (contents (now (s .entry)) .bag) ⌝ }
+    requires { ⌜ Ready h (now s) × (c ≡ contents (now s) .number (ToBackOf j)) × (board ≡ boardOn h (now s) j (contents (now s) .number (ToBackOf j))) ⌝ }
+    ensures { λ r. ⌜ r ≡ isFull (Backing j (contents (now (s .entry)) .number (ToBackOf j)) (boardOn h (now (s .entry)) j (contents (now (s .entry)) .number (ToBackOf j)))) (contents (now (s .entry)) .bag) ⌝ }
 {
     support::entry::is_full(s, Entry::Backing(j, c, board))
 }

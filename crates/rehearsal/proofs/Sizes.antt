@@ -24,7 +24,7 @@ use Rattle.rules.specs.Form.{read}
 use Rattle.rules.specs.Rules.{rule, answer, reply}
 use Rattle.state.specs.Contents.{contents}
 use Rattle.view.specs.View.{stateOf}
-use Rattle.engine.specs.Engine.{headOf, boardTable, stepAnswer}
+use Rattle.engine.specs.Engine.{headOf, rulesTable, stepAnswer}
 use Rattle.engine.proofs.Fits.{good-fits}
 use Rattle.engine.proofs.Steps.{step-answers}
 use Rattle.text.specs.Wrote.{each}
@@ -91,7 +91,7 @@ module _ (input : List ℕ) (T : Taken input) where
   lines-most =
       each-most (stepAt input) 8 (stepCount input) 5042 (omega (arith, T .few)) (λ k l.
       step-most (k + 1) (stepAnswer table (stateAt input k) (callAt input k)) (omega (arith, T .few, l))
-      (rw (step-answers table (T .table) (stateAt input k) (state-ready input T k) (callAt input k)) (reply-small (boardTable table) (stateOf (contents (stateAt input k))) (read (callAt input k)))))
+      (rw (step-answers table (T .table) (stateAt input k) (state-ready input T k) (callAt input k)) (reply-small (rulesTable table) (stateOf (contents (stateAt input k))) (read (callAt input k)))))
 
   shown-most : length (stateLines (headOf table) (contents (lastState input))) ≤ 181252
   unfolding lastState

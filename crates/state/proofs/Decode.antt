@@ -17,7 +17,7 @@ use Rattle.bits.proofs.Number.{num-of}
 use Rattle.rules.specs.declared.Entry.{Entry}
 use Rattle.state.specs.declared.Fact.{Fact}
 use Rattle.state.specs.declared.Number.{Number}
-use Rattle.state.specs.Layout.{openAt, countAt, bagAt, entrySize, entryStart, size, signerIn, periodIn, boardIn, countBytes, itemBytes}
+use Rattle.state.specs.Layout.{currentAt, countAt, bagAt, entrySize, entryStart, size, signerIn, periodIn, boardIn, countBytes, itemBytes}
 use Rattle.state.specs.Facts.{inRange, isPeer}
 use Rattle.state.specs.Places.{place, factAt}
 use Rattle.state.specs.Numbers.{slot, peerOf, numberOf}
@@ -57,24 +57,24 @@ module _ (c : Contents) where
 
   -- the four parts of the layout
 
-  fact-byte : (b : ℕ) → b < openAt → byteAt s b ≡ pack 8 (λ k. c .has (factAt (8 * b + k)))
+  fact-byte : (b : ℕ) → b < currentAt → byteAt s b ≡ pack 8 (λ k. c .has (factAt (8 * b + k)))
   unfolding stateByte
-  fact-byte b l = byte b (omega arith) ∙ before b openAt _ _ _ l refl
+  fact-byte b l = byte b (omega arith) ∙ before b currentAt _ _ _ l refl
 
-  slot-byte : (b : ℕ) → openAt ≤ b → b < countAt → byteAt s b ≡ c .number (numberOf b)
+  slot-byte : (b : ℕ) → currentAt ≤ b → b < countAt → byteAt s b ≡ c .number (numberOf b)
   unfolding stateByte
-  slot-byte b l h = byte b (omega arith) ∙ after b openAt _ _ _ l (before b countAt _ _ _ h refl)
+  slot-byte b l h = byte b (omega arith) ∙ after b currentAt _ _ _ l (before b countAt _ _ _ h refl)
 
   count-byte : (k : ℕ) → k < countBytes → byteAt s (countAt + k) ≡ length (c .bag) / 256 ^ k % 256
   unfolding stateByte
   count-byte k l =
       let b = countAt + k in
       byte b (omega arith)
-      ∙ after b openAt _ _ _ (omega arith) (after b countAt _ _ _ (omega arith) (before b bagAt _ _ _ (omega arith) (ap (λ (n : ℕ). length (c .bag) / 256 ^ n % 256) (omega arith))))
+      ∙ after b currentAt _ _ _ (omega arith) (after b countAt _ _ _ (omega arith) (before b bagAt _ _ _ (omega arith) (ap (λ (n : ℕ). length (c .bag) / 256 ^ n % 256) (omega arith))))
 
   bag-byte : (b : ℕ) → bagAt ≤ b → b < size → byteAt s b ≡ bagByte (c .bag) ((b - bagAt) / entrySize) ((b - bagAt) % entrySize)
   unfolding stateByte
-  bag-byte b l h = byte b h ∙ after b openAt _ _ _ (omega arith) (after b countAt _ _ _ (omega arith) (after b bagAt _ _ _ l refl))
+  bag-byte b l h = byte b h ∙ after b currentAt _ _ _ (omega arith) (after b countAt _ _ _ (omega arith) (after b bagAt _ _ _ l refl))
 
   module _ (fits : Fits c) where
     bytes : Bytes s
@@ -88,7 +88,7 @@ module _ (c : Contents) where
         go (no l) = rw (byte-past b (omega arith)) (omega arith)
         go (yes l) =
             rw (byte b l) (
-            by-test Is b openAt _ _ (λ h. pack-lt 8 (λ k. c .has (factAt (8 * b + k)))) (λ h0.
+            by-test Is b currentAt _ _ (λ h. pack-lt 8 (λ k. c .has (factAt (8 * b + k)))) (λ h0.
             by-test Is b countAt _ _ (λ h. fits .small (numberOf b)) (λ h1.
             by-test Is b bagAt _ _ (λ h. omega arith) (λ h2.
             by-test Is ((b - bagAt) / entrySize) (length (c .bag)) _ _ (λ h. entry-byte-lt _ _ (fits .entry ((b - bagAt) / entrySize) h)) (λ h. omega arith)))))

@@ -11,7 +11,7 @@ use Rattle.base.proofs.Bits.{pack-ext, pack-bit}
 use Rattle.bits.specs.Row.{bitAt}
 use Rattle.bits.specs.Number.{num}
 use Rattle.bits.proofs.Number.{num-byte}
-use Rattle.state.specs.Layout.{openAt, countAt, bagAt, entrySize, entryStart, size, signerIn, periodIn, boardIn, countBytes, itemBytes}
+use Rattle.state.specs.Layout.{currentAt, countAt, bagAt, entrySize, entryStart, size, signerIn, periodIn, boardIn, countBytes, itemBytes}
 use Rattle.state.specs.Places.{factAt}
 use Rattle.state.specs.Numbers.{peerOf, numberOf}
 use Rattle.rules.specs.Bag.{periodOf, boardOf, noEntry, entryAt as nth}
@@ -48,7 +48,7 @@ bag-length s = length-tab (count s) (entryAt s)
 
 module _ (s : List ℕ) (c : Canon s) where
   -- a byte of facts
-  fact-byte : (b : ℕ) → b < openAt → pack 8 (λ k. contents s .has (factAt (8 * b + k))) ≡ byteAt s b
+  fact-byte : (b : ℕ) → b < currentAt → pack 8 (λ k. contents s .has (factAt (8 * b + k))) ≡ byteAt s b
   unfolding bitAt
   fact-byte b l = pack-ext 8 (λ k. contents s .has (factAt (8 * b + k))) (bit (byteAt s b)) one ∙ pack-bit 8 (byteAt s b) (c .bytes b)
     where
@@ -60,7 +60,7 @@ module _ (s : List ℕ) (c : Canon s) where
           ∙ ap₂ (λ (x y : ℕ). bit (byteAt s x) y) {x = (8 * b + k) / 8} {y = b} (omega arith) (omega arith)
 
   -- a byte of numbers
-  slot-byte : (b : ℕ) → openAt ≤ b → b < countAt → contents s .number (numberOf b) ≡ byteAt s b
+  slot-byte : (b : ℕ) → currentAt ≤ b → b < countAt → contents s .number (numberOf b) ≡ byteAt s b
   slot-byte b l h = let n = at-slot b l h in sym (number-byte s (numberOf b) (within-peer (peerOf (numberOf b)) (n .0))) ∙ ap (byteAt s) (n .1)
 
   -- a byte of the count
@@ -93,7 +93,7 @@ module _ (s : List ℕ) (c : Canon s) where
   state-byte : (b : ℕ) → stateByte (contents s) b ≡ byteAt s b
   unfolding stateByte
   state-byte b =
-      by-test Is b openAt _ _ (λ h. fact-byte b h) (λ h0.
+      by-test Is b currentAt _ _ (λ h. fact-byte b h) (λ h0.
       by-test Is b countAt _ _ (λ h. slot-byte b h0 h) (λ h1.
       by-test Is b bagAt _ _ (λ h. count-byte b h1 h) (λ h2.
       bag-byte ((b - bagAt) / entrySize) ((b - bagAt) % entrySize) (omega arith) ∙ ap (byteAt s) (omega arith))))

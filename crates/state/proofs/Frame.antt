@@ -13,7 +13,7 @@ use Rattle.bits.proofs.Row.{bitAt-same}
 use Rattle.bits.proofs.Number.{num-ext}
 use Rattle.state.specs.declared.Fact.{Fact}
 use Rattle.state.specs.declared.Number.{Number}
-use Rattle.state.specs.Layout.{openAt, countAt, entrySize, entryStart, signerIn, periodIn, boardIn, countBytes, itemBytes}
+use Rattle.state.specs.Layout.{currentAt, countAt, entrySize, entryStart, signerIn, periodIn, boardIn, countBytes, itemBytes}
 use Rattle.state.specs.Facts.{inRange, isPeer}
 use Rattle.state.specs.Places.{place}
 use Rattle.state.specs.Numbers.{peerOf, slot}
@@ -62,7 +62,7 @@ pub no-number : (s : List ℕ) (n : Number) {b : Bool} → b ≡ isPeer (peerOf 
 no-number s n e t = sym (number-none s n (sym e ∙ t))
 
 module _ (t s : List ℕ) where
-  pub has-same : ((i : ℕ) → i < openAt → byteAt t i ≡ byteAt s i) → (f : Fact) → contents t .has f ≡ contents s .has f
+  pub has-same : ((i : ℕ) → i < currentAt → byteAt t i ≡ byteAt s i) → (f : Fact) → contents t .has f ≡ contents s .has f
   unfolding contents
   has-same same f = go (either (inRange f))
     where
@@ -70,7 +70,7 @@ module _ (t s : List ℕ) where
       go (inl e) = ap (λ (b : Bool). inRange f && b) (bitAt-same t s (place f) (same (place f / 8) (omega (arith, place-lt f (range-within f e)))))
       go (inr e) = rw e
 
-  pub number-same : ((i : ℕ) → openAt ≤ i → i < countAt → byteAt t i ≡ byteAt s i) → (n : Number) → contents t .number n ≡ contents s .number n
+  pub number-same : ((i : ℕ) → currentAt ≤ i → i < countAt → byteAt t i ≡ byteAt s i) → (n : Number) → contents t .number n ≡ contents s .number n
   unfolding contents
   number-same same n = go (either (isPeer (peerOf n)))
     where

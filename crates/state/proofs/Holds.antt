@@ -13,7 +13,7 @@ use Rattle.bits.specs.Row.{bitAt, putBit, Bytes}
 use Rattle.bits.proofs.Row.{length-put, byte-put, bitAt-put, bytes-put, bytes-set}
 use Rattle.state.specs.declared.Fact.{Fact}
 use Rattle.state.specs.declared.Number.{Number}
-use Rattle.state.specs.Layout.{openAt, countAt}
+use Rattle.state.specs.Layout.{currentAt, countAt}
 use Rattle.state.specs.Facts.{sameFact, inRange, Within, isPeer, Peer}
 use Rattle.state.specs.Places.{place}
 use Rattle.state.specs.Numbers.{sameNumber, peerOf, slot}
@@ -25,7 +25,7 @@ use Rattle.state.proofs.Frame as frame
 
 -- bits set for a set of facts: the facts join, and all else is as it was
 pub adding-holds : (s t : List ℕ) (new : Fact → Bool) → Canon s → length t ≡ length s → Bytes t
-    → ((i : ℕ) → openAt ≤ i → byteAt t i ≡ byteAt s i)
+    → ((i : ℕ) → currentAt ≤ i → byteAt t i ≡ byteAt s i)
     → ((f : Fact) → new f ≡ true → inRange f ≡ true)
     → ((f : Fact) → inRange f ≡ true → bitAt t (place f) ≡ (new f || bitAt s (place f)))
     → Holds t (adding new (contents s))
@@ -54,7 +54,7 @@ put-holds s f c e =
     (λ g n. ap inRange (fact-same g f n) ∙ e)
     (λ g q. bitAt-put s (place f) (place g) (omega (arith, before, c .long)) ∙ ap (λ (b : Bool). b || bitAt s (place g)) (same-place f g e q))
   where
-    before : place f < 8 * openAt
+    before : place f < 8 * currentAt
     before = place-lt f (range-within f e)
 
 pub put-done : (s t : List ℕ) (f : Fact) (a : ℕ) → Canon s → Within f → a ≡ place f → t ≡ putBit s a → Holds t (insert f (contents s))
@@ -77,7 +77,7 @@ store-holds s n v c e h =
     t : List ℕ
     t = set s (slot n) v
 
-    w : (openAt ≤ slot n) × (slot n < countAt)
+    w : (currentAt ≤ slot n) × (slot n < countAt)
     w = slot-within n (peer-within (peerOf n) e)
 
     other : (i : ℕ) → (i ≡ slot n → ⊥) → byteAt t i ≡ byteAt s i

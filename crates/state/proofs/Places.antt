@@ -8,7 +8,7 @@ use borrow.Author.Tests.{eq-eqb, eqb-true, ltb-true, ltb-false, lt-ltb, le-ltb}
 use Rattle.base.proofs.Truth.{iff}
 use Rattle.state.specs.declared.Fact.{Fact}
 use Rattle.state.specs.declared.Fact.the-variants.{Posted, Signed, Shared, Receipted, Held, Known, Heard}
-use Rattle.state.specs.Layout.{peers, items, signedAt, sharedAt, receiptedAt, heldAt, databaseAt, heardAt, openAt}
+use Rattle.state.specs.Layout.{peers, items, signedAt, sharedAt, receiptedAt, heldAt, databaseAt, heardAt, currentAt}
 use Rattle.state.specs.Facts.{sameFact, inRange, Within}
 use Rattle.state.specs.Places.{row, spot, place, factAt}
 use Rattle.state.proofs.Ranges.{fact-self, fact-same, range-within}
@@ -22,7 +22,7 @@ by-test P a n x y f g = go (ltb a n) refl
     go false e = g (ltb-false a n e)
 
 -- every fact in range stands before the numbers
-pub place-lt : (f : Fact) → Within f → place f < 8 * openAt
+pub place-lt : (f : Fact) → Within f → place f < 8 * currentAt
 place-lt (Posted i) h = omega arith
 place-lt (Signed k p i) h = omega arith
 place-lt (Shared k p i) h = omega arith
@@ -32,7 +32,7 @@ place-lt (Known j p i k) h = omega arith
 place-lt (Heard j e) h = omega arith
 
 -- a bit before the numbers is that of a fact in range
-pub at-place : (a : ℕ) → a < 8 * openAt → Within (factAt a) × (place (factAt a) ≡ a)
+pub at-place : (a : ℕ) → a < 8 * currentAt → Within (factAt a) × (place (factAt a) ≡ a)
 unfolding factAt
 at-place a l =
     by-test At a (8 * signedAt) _ _ (λ h. (omega arith, omega arith)) (λ h0.

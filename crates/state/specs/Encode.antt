@@ -7,7 +7,7 @@ use lib.ListN.{length}
 use Rattle.base.specs.Bits.{pack}
 use Rattle.rules.specs.declared.Entry.{Entry}
 use Rattle.state.specs.Tab.{tab}
-use Rattle.state.specs.Layout.{openAt, countAt, bagAt, entrySize, size}
+use Rattle.state.specs.Layout.{currentAt, countAt, bagAt, entrySize, size}
 use Rattle.state.specs.Places.{factAt}
 use Rattle.state.specs.Numbers.{numberOf}
 use Rattle.rules.specs.Bag.{entryAt as nth}
@@ -21,7 +21,7 @@ bagByte bag e o = cond (ltb e (length bag)) (entryByte (nth bag e) o) 0
 -- byte b of the state
 unfoldable pub stateByte : Contents → ℕ → ℕ
 stateByte c b =
-    cond (ltb b openAt) (pack 8 (λ k. c .has (factAt (8 * b + k))))
+    cond (ltb b currentAt) (pack 8 (λ k. c .has (factAt (8 * b + k))))
     (cond (ltb b countAt) (c .number (numberOf b))
     (cond (ltb b bagAt) (length (c .bag) / 256 ^ (b - countAt) % 256)
     (bagByte (c .bag) ((b - bagAt) / entrySize) ((b - bagAt) % entrySize))))

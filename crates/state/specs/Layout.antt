@@ -51,11 +51,11 @@ heardAt = 19528
 
 -- the numbers, a byte for each peer
 
-abbrev pub openAt : ℕ
-openAt = 20040
+abbrev pub currentAt : ℕ
+currentAt = 20040
 
-abbrev pub nextAt : ℕ
-nextAt = 20056
+abbrev pub toBackAt : ℕ
+toBackAt = 20056
 
 abbrev pub downAt : ℕ
 downAt = 20072

@@ -3,33 +3,33 @@ use Prim.Native.Nat.{ℕ, _+_, _-_}
 use mathlib.Core.Bool.{Bool, false, cond}
 use lib.Dec.{eqb, ltb}
 use Rattle.state.specs.declared.Number.{Number}
-use Rattle.state.specs.declared.Number.the-variants.{OpenOf, NextOf, DownOf}
-use Rattle.state.specs.Layout.{openAt, nextAt, downAt}
+use Rattle.state.specs.declared.Number.the-variants.{CurrentOf, ToBackOf, DownOf}
+use Rattle.state.specs.Layout.{currentAt, toBackAt, downAt}
 
 -- the same number of the same peer
 abbrev pub sameNumber : Number → Number → Bool
-sameNumber (OpenOf j) (OpenOf k) = eqb j k
-sameNumber (OpenOf j) (NextOf k) = false
-sameNumber (OpenOf j) (DownOf k) = false
-sameNumber (NextOf j) (OpenOf k) = false
-sameNumber (NextOf j) (NextOf k) = eqb j k
-sameNumber (NextOf j) (DownOf k) = false
-sameNumber (DownOf j) (OpenOf k) = false
-sameNumber (DownOf j) (NextOf k) = false
+sameNumber (CurrentOf j) (CurrentOf k) = eqb j k
+sameNumber (CurrentOf j) (ToBackOf k) = false
+sameNumber (CurrentOf j) (DownOf k) = false
+sameNumber (ToBackOf j) (CurrentOf k) = false
+sameNumber (ToBackOf j) (ToBackOf k) = eqb j k
+sameNumber (ToBackOf j) (DownOf k) = false
+sameNumber (DownOf j) (CurrentOf k) = false
+sameNumber (DownOf j) (ToBackOf k) = false
 sameNumber (DownOf j) (DownOf k) = eqb j k
 
 -- the peer whose number it is
 abbrev pub peerOf : Number → ℕ
-peerOf (OpenOf j) = j
-peerOf (NextOf j) = j
+peerOf (CurrentOf j) = j
+peerOf (ToBackOf j) = j
 peerOf (DownOf j) = j
 
 -- the byte at which it stands
 abbrev pub slot : Number → ℕ
-slot (OpenOf j) = openAt + (j - 1)
-slot (NextOf j) = nextAt + (j - 1)
+slot (CurrentOf j) = currentAt + (j - 1)
+slot (ToBackOf j) = toBackAt + (j - 1)
 slot (DownOf j) = downAt + (j - 1)
 
 -- the number that stands at byte b
 unfoldable pub numberOf : ℕ → Number
-numberOf b = cond (ltb b nextAt) (OpenOf (b - openAt + 1)) (cond (ltb b downAt) (NextOf (b - nextAt + 1)) (DownOf (b - downAt + 1)))
+numberOf b = cond (ltb b toBackAt) (CurrentOf (b - currentAt + 1)) (cond (ltb b downAt) (ToBackOf (b - toBackAt + 1)) (DownOf (b - downAt + 1)))

@@ -31,10 +31,10 @@ pub const DATABASE: usize = 3144;
 
 pub const HEARD: usize = 19528;
 
-// The numbers, a byte for each peer.
-pub const OPEN: usize = 20040;
+// The numbers, a byte for each peer: p, c, and whether it is down.
+pub const CURRENT: usize = 20040;
 
-pub const NEXT: usize = 20056;
+pub const TO_BACK: usize = 20056;
 
 pub const DOWN: usize = 20072;
 

@@ -27,7 +27,10 @@ pub enum Fact {
 
 // The numbers of a peer: its open period, the next period to back, and 1 for down.
 pub enum Number {
-    OpenOf(u8),
-    NextOf(u8),
+    // p, the open period
+    CurrentOf(u8),
+    // c, the next period to back
+    ToBackOf(u8),
+    // 1 where the peer is down
     DownOf(u8),
 }

@@ -1,6 +1,6 @@
 // The numbers of a peer: read, and stored.
 ghost use mathlib.Core.Path.{_≡_};
-ghost use Rattle.state.specs.declared.Number.the-variants.{OpenOf, NextOf, DownOf};
+ghost use Rattle.state.specs.declared.Number.the-variants.{CurrentOf, ToBackOf, DownOf};
 ghost use Rattle.state.specs.Facts.{Peer};
 ghost use Rattle.state.specs.Numbers.{peerOf};
 ghost use Rattle.state.specs.Contents.{contents, Canon, Holds, store};
@@ -17,23 +17,23 @@ fn value_of(s: &[u8], n: Number) -> u8
 }
 
 // Peer j's open period.
-pub fn open_of(s: &[u8], j: u8) -> u8
+pub fn current_of(s: &[u8], j: u8) -> u8
     requires { ⌜ Canon (now s) ⌝ }
-    ensures { λ r. ⌜ r ≡ contents (now (s .entry)) .number (OpenOf j) ⌝ }
+    ensures { λ r. ⌜ r ≡ contents (now (s .entry)) .number (CurrentOf j) ⌝ }
 {
     if is_peer(j) {
-        return value_of(s, Number::OpenOf(j));
+        return value_of(s, Number::CurrentOf(j));
     }
     0
 }
 
 // The next period that peer j is to back.
-pub fn next_of(s: &[u8], j: u8) -> u8
+pub fn to_back_of(s: &[u8], j: u8) -> u8
     requires { ⌜ Canon (now s) ⌝ }
-    ensures { λ r. ⌜ r ≡ contents (now (s .entry)) .number (NextOf j) ⌝ }
+    ensures { λ r. ⌜ r ≡ contents (now (s .entry)) .number (ToBackOf j) ⌝ }
 {
     if is_peer(j) {
-        return value_of(s, Number::NextOf(j));
+        return value_of(s, Number::ToBackOf(j));
     }
     0
 }

@@ -72,8 +72,8 @@ pub(crate) fn slot_of(n: Number) -> usize
     ensures { λ r. ⌜ r ≡ slot n ⌝ }
 {
     match n {
-        Number::OpenOf(j) => layout::OPEN + wide(j - 1),
-        Number::NextOf(j) => layout::NEXT + wide(j - 1),
+        Number::CurrentOf(j) => layout::CURRENT + wide(j - 1),
+        Number::ToBackOf(j) => layout::TO_BACK + wide(j - 1),
         Number::DownOf(j) => layout::DOWN + wide(j - 1),
     }
 }

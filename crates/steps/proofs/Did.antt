@@ -13,7 +13,7 @@ use Rattle.view.specs.View.{stateOf}
 use Rattle.rules.specs.Table.{Table}
 use Rattle.state.specs.declared.Fact.{Fact}
 use Rattle.state.specs.declared.Fact.the-variants.{Posted, Signed, Shared, Receipted, Held, Known, Heard}
-use Rattle.state.specs.declared.Number.the-variants.{OpenOf, NextOf, DownOf}
+use Rattle.state.specs.declared.Number.the-variants.{CurrentOf, ToBackOf, DownOf}
 use Rattle.state.specs.Contents.{Contents, contents, Canon, Holds, insert, store, withEntry}
 use Rattle.database.specs.Database.{fetched}
 use Rattle.view.specs.Effect.{enterOn, effectOn}
@@ -39,11 +39,11 @@ module _ (T : Table) (s t : List ℕ) where
   unfolding effectOn
   did-post x h = h
 
-  pub did-hand : (j p x : ℕ) → p ≡ contents s .number (OpenOf j) → Holds t (insert (Held j p x) (contents s)) → Holds t (effectOn T (contents s) (Hand j x))
+  pub did-hand : (j p x : ℕ) → p ≡ contents s .number (CurrentOf j) → Holds t (insert (Held j p x) (contents s)) → Holds t (effectOn T (contents s) (Hand j x))
   unfolding effectOn
   did-hand j p x e h = rw e at h
 
-  pub did-sign : (u : List ℕ) (j p x : ℕ) → p ≡ contents s .number (OpenOf j) → Holds u (insert (Signed j p x) (contents s)) → Holds t (insert (Known j p x j) (contents u)) → Holds t (effectOn T (contents s) (Sign j x))
+  pub did-sign : (u : List ℕ) (j p x : ℕ) → p ≡ contents s .number (CurrentOf j) → Holds u (insert (Signed j p x) (contents s)) → Holds t (insert (Known j p x j) (contents u)) → Holds t (effectOn T (contents s) (Sign j x))
   unfolding effectOn
   did-sign u j p x e h k = rw e at (again u t (Known j p x j) (insert (Signed j p x) (contents s)) h k)
 
@@ -51,7 +51,7 @@ module _ (T : Table) (s t : List ℕ) where
   unfolding effectOn
   did-take j k p x h = h
 
-  pub did-share : (j p x : ℕ) → p ≡ contents s .number (OpenOf j) → Holds t (insert (Shared j p x) (contents s)) → Holds t (effectOn T (contents s) (Share j x))
+  pub did-share : (j p x : ℕ) → p ≡ contents s .number (CurrentOf j) → Holds t (insert (Shared j p x) (contents s)) → Holds t (effectOn T (contents s) (Share j x))
   unfolding effectOn
   did-share j p x e h = rw e at h
 
@@ -59,7 +59,7 @@ module _ (T : Table) (s t : List ℕ) where
   unfolding effectOn
   did-receipt p x h = h
 
-  pub did-close : (j : ℕ) → Holds t (store (OpenOf j) (contents s .number (OpenOf j) + 1) (contents s)) → Holds t (effectOn T (contents s) (Close j))
+  pub did-close : (j : ℕ) → Holds t (store (CurrentOf j) (contents s .number (CurrentOf j) + 1) (contents s)) → Holds t (effectOn T (contents s) (Close j))
   unfolding effectOn
   did-close j h = h
 
@@ -91,16 +91,16 @@ module _ (T : Table) (s t : List ℕ) where
   unfolding effectOn
   did-send-hash j p B e h = rw e at h
 
-  pub did-back : (u : List ℕ) (j q B : ℕ) → q ≡ contents s .number (NextOf j) → B ≡ boardBy T (stateOf (contents s)) j q → Holds u (enterOn (Backing j q B) (contents s))
-      → Holds t (store (NextOf j) (contents u .number (NextOf j) + 1) (contents u)) → Holds t (effectOn T (contents s) (Back j))
+  pub did-back : (u : List ℕ) (j q B : ℕ) → q ≡ contents s .number (ToBackOf j) → B ≡ boardBy T (stateOf (contents s)) j q → Holds u (enterOn (Backing j q B) (contents s))
+      → Holds t (store (ToBackOf j) (contents u .number (ToBackOf j) + 1) (contents u)) → Holds t (effectOn T (contents s) (Back j))
   unfolding effectOn
-  did-back u j q B i e h k = record { canon = k .canon; says = k .says ∙ ap (λ (c : Contents). store (NextOf j) (c .number (NextOf j) + 1) c) (h .says) ∙ counted ∙ rw (e, i) }
+  did-back u j q B i e h k = record { canon = k .canon; says = k .says ∙ ap (λ (c : Contents). store (ToBackOf j) (c .number (ToBackOf j) + 1) c) (h .says) ∙ counted ∙ rw (e, i) }
     where
       after : Contents
       after = enterOn (Backing j q B) (contents s)
 
-      counted : store (NextOf j) (after .number (NextOf j) + 1) after ≡ store (NextOf j) (contents s .number (NextOf j) + 1) after
-      counted = ap (λ (v : ℕ). store (NextOf j) (v + 1) after) (same-number (Backing j q B) (contents s) (NextOf j))
+      counted : store (ToBackOf j) (after .number (ToBackOf j) + 1) after ≡ store (ToBackOf j) (contents s .number (ToBackOf j) + 1) after
+      counted = ap (λ (v : ℕ). store (ToBackOf j) (v + 1) after) (same-number (Backing j q B) (contents s) (ToBackOf j))
 
   pub did-publish : (n : ℕ) (x : Entry) → x ≡ boardNamed (contents s .bag) n → Holds t (enterOn x (contents s)) → Holds t (effectOn T (contents s) (Publish n))
   unfolding effectOn

@@ -15,7 +15,7 @@ use Rattle.rules.specs.Bag.{isIn, isFull, boardNamed}
 use Rattle.rules.specs.Rules.{rule, boardBy}
 use Rattle.rules.proofs.Answered.{Clear, answered}
 use Rattle.state.specs.declared.Fact.the-variants.{Posted, Signed, Shared, Receipted, Held, Known, Heard}
-use Rattle.state.specs.declared.Number.the-variants.{OpenOf, NextOf}
+use Rattle.state.specs.declared.Number.the-variants.{CurrentOf, ToBackOf}
 use Rattle.state.specs.Layout.{peers, periods, items, entries}
 use Rattle.state.specs.Facts.{Peer, Row, Within}
 use Rattle.state.specs.Contents.{contents, Holds, withEntry}
@@ -52,15 +52,15 @@ module _ (h : Head) (clash : ℕ → ℕ → Bool) (s : List ℕ) (R : Ready h s
     unfolding rule
     may-post x e z = let c = clear (Post x) e z in let r = room in search named
 
-    pub may-hand : (j p x : ℕ) → a ≡ answerOn h clash s (Hand j x) → a ≡ 0 → p ≡ contents s .number (OpenOf j) → Within (Held j p x)
+    pub may-hand : (j p x : ℕ) → a ≡ answerOn h clash s (Hand j x) → a ≡ 0 → p ≡ contents s .number (CurrentOf j) → Within (Held j p x)
     unfolding rule
     may-hand j p x e z i = let c = clear (Hand j x) e z in let r = room in search named
 
-    pub may-sign : (j p x : ℕ) → a ≡ answerOn h clash s (Sign j x) → a ≡ 0 → p ≡ contents s .number (OpenOf j) → Within (Signed j p x)
+    pub may-sign : (j p x : ℕ) → a ≡ answerOn h clash s (Sign j x) → a ≡ 0 → p ≡ contents s .number (CurrentOf j) → Within (Signed j p x)
     unfolding rule
     may-sign j p x e z i = let c = clear (Sign j x) e z in let r = room in search named
 
-    pub may-know-own : (j p x : ℕ) → a ≡ answerOn h clash s (Sign j x) → a ≡ 0 → p ≡ contents s .number (OpenOf j) → Within (Known j p x j)
+    pub may-know-own : (j p x : ℕ) → a ≡ answerOn h clash s (Sign j x) → a ≡ 0 → p ≡ contents s .number (CurrentOf j) → Within (Known j p x j)
     unfolding rule
     may-know-own j p x e z i = let c = clear (Sign j x) e z in let r = room in search named
 
@@ -68,7 +68,7 @@ module _ (h : Head) (clash : ℕ → ℕ → Bool) (s : List ℕ) (R : Ready h s
     unfolding rule
     may-take j k p x e z = let c = clear (Take j k p x) e z in let r = room in search named
 
-    pub may-share : (j p x : ℕ) → a ≡ answerOn h clash s (Share j x) → a ≡ 0 → p ≡ contents s .number (OpenOf j) → Within (Shared j p x)
+    pub may-share : (j p x : ℕ) → a ≡ answerOn h clash s (Share j x) → a ≡ 0 → p ≡ contents s .number (CurrentOf j) → Within (Shared j p x)
     unfolding rule
     may-share j p x e z i = let c = clear (Share j x) e z in let r = room in search named
 
@@ -80,7 +80,7 @@ module _ (h : Head) (clash : ℕ → ℕ → Bool) (s : List ℕ) (R : Ready h s
     unfolding rule
     may-close j e z = let c = clear (Close j) e z in let r = room in search named
 
-    pub close-fits : (j : ℕ) → a ≡ answerOn h clash s (Close j) → a ≡ 0 → contents s .number (OpenOf j) < 255
+    pub close-fits : (j : ℕ) → a ≡ answerOn h clash s (Close j) → a ≡ 0 → contents s .number (CurrentOf j) < 255
     close-fits j e z = omega (arith, R .good clash .valid .counters .opens j, R .room .periods)
 
     pub may-fetch : (j k p : ℕ) → a ≡ answerOn h clash s (Fetch j k p) → a ≡ 0 → Row j p
@@ -113,7 +113,7 @@ module _ (h : Head) (clash : ℕ → ℕ → Bool) (s : List ℕ) (R : Ready h s
     unfolding rule
     room-for-hash j p B e z i = let c = clear (SendHash j p) e z in rw i (search)
 
-    pub room-for-backing : (j q B : ℕ) → a ≡ answerOn h clash s (Back j) → a ≡ 0 → q ≡ contents s .number (NextOf j) → B ≡ boardBy (tableOf h clash) (stateOf (contents s)) j (contents s .number (NextOf j))
+    pub room-for-backing : (j q B : ℕ) → a ≡ answerOn h clash s (Back j) → a ≡ 0 → q ≡ contents s .number (ToBackOf j) → B ≡ boardBy (tableOf h clash) (stateOf (contents s)) j (contents s .number (ToBackOf j))
         → isFull (Backing j q B) (contents s .bag) ≡ false
     unfolding rule
     room-for-backing j q B e z k i = let c = clear (Back j) e z in rw (k, i) (search)
@@ -135,18 +135,18 @@ module _ (h : Head) (clash : ℕ → ℕ → Bool) (s : List ℕ) (R : Ready h s
     may-back j e z = let c = clear (Back j) e z in let r = room in search named
 
   -- the board of the period to back, whichever way that period is written
-  pub of-next : (j q B : ℕ) → q ≡ contents s .number (NextOf j) → B ≡ boardBy (tableOf h clash) (stateOf (contents s)) j q → B ≡ boardBy (tableOf h clash) (stateOf (contents s)) j (contents s .number (NextOf j))
+  pub of-next : (j q B : ℕ) → q ≡ contents s .number (ToBackOf j) → B ≡ boardBy (tableOf h clash) (stateOf (contents s)) j q → B ≡ boardBy (tableOf h clash) (stateOf (contents s)) j (contents s .number (ToBackOf j))
   of-next j q B i e = e ∙ ap (λ (p : ℕ). boardBy (tableOf h clash) (stateOf (contents s)) j p) i
 
 -- after an entry the counters are as they were
 module _ (h : Head) (s : List ℕ) (R : Ready h s) where
-  pub back-fits : (u : List ℕ) (x : Entry) (j : ℕ) → Holds u (enterOn x (contents s)) → contents u .number (NextOf j) < 255
+  pub back-fits : (u : List ℕ) (x : Entry) (j : ℕ) → Holds u (enterOn x (contents s)) → contents u .number (ToBackOf j) < 255
   unfolding enterOn withEntry
   back-fits u x j H = rw (H .says) (go (isIn x (contents s .bag)))
     where
-      small : contents s .number (NextOf j) < 255
+      small : contents s .number (ToBackOf j) < 255
       small = omega (arith, R .good noClash .valid .counters .behind j, R .good noClash .valid .counters .opens j, R .room .periods)
 
-      go : (b : Bool) → cond b (contents s) (withEntry x (contents s)) .number (NextOf j) < 255
+      go : (b : Bool) → cond b (contents s) (withEntry x (contents s)) .number (ToBackOf j) < 255
       go true = small
       go false = small

@@ -6,7 +6,7 @@ use mathlib.Core.Path.{_≡_}
 use lib.Dec.{eqb}
 use Rattle.counters.specs.declared.Counters.{Counters}
 use Rattle.rules.specs.declared.Step.{Step}
-use Rattle.state.specs.declared.Number.the-variants.{OpenOf, NextOf}
+use Rattle.state.specs.declared.Number.the-variants.{CurrentOf, ToBackOf}
 use Rattle.state.specs.Contents.{Contents, contents}
 use Rattle.state.specs.Encode.{encode}
 use Rattle.view.specs.declared.Head.{Head}
@@ -20,4 +20,4 @@ pub record Stepped (h : Head) (clash : ℕ → ℕ → Bool) (s t : List ℕ) (s
 
 -- peer j's two counters
 abbrev pub countersOf : Contents → ℕ → Counters
-countersOf c j = record { current = c .number (OpenOf j); «to_back» = c .number (NextOf j) }
+countersOf c j = record { current = c .number (CurrentOf j); «to_back» = c .number (ToBackOf j) }

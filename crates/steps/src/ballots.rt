@@ -6,7 +6,7 @@ ghost use Rattle.view.specs.Ready.{Ready};
 ghost use Rattle.steps.specs.Stepped.{Stepped};
 use state::Fact;
 use state::facts::add_fact;
-use state::numbers::open_of;
+use state::numbers::current_of;
 use view::Head;
 
 // 1, post: item x is posted.
@@ -31,7 +31,7 @@ pub fn step_hand(s: &mut [u8], h: Head, row: u64, j: u8, x: u8) -> u8
     if a != 0 {
         return a;
     }
-    let p = open_of(s, j);
+    let p = current_of(s, j);
     add_fact(s, Fact::Held(j, p, x));
     0
 }
@@ -45,7 +45,7 @@ pub fn step_sign(s: &mut [u8], h: Head, j: u8, x: u8) -> u8
     if a != 0 {
         return a;
     }
-    let p = open_of(s, j);
+    let p = current_of(s, j);
     add_fact(s, Fact::Signed(j, p, x));
     add_fact(s, Fact::Known(j, p, x, j));
     0
@@ -73,7 +73,7 @@ pub fn step_share(s: &mut [u8], h: Head, j: u8, x: u8) -> u8
     if a != 0 {
         return a;
     }
-    let p = open_of(s, j);
+    let p = current_of(s, j);
     add_fact(s, Fact::Shared(j, p, x));
     0
 }

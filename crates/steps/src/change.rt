@@ -1,7 +1,7 @@
 // Changes that several steps share: a counter raised, an entry entered.
 ghost use mathlib.Core.Path.{_≡_};
 ghost use Prim.Native.Nat.{_+_, _<_};
-ghost use Rattle.state.specs.declared.Number.the-variants.{OpenOf, NextOf};
+ghost use Rattle.state.specs.declared.Number.the-variants.{CurrentOf, ToBackOf};
 ghost use Rattle.state.specs.Facts.{Peer};
 ghost use mathlib.Core.Bool.{false};
 ghost use Rattle.rules.specs.Bag.{isFull};
@@ -13,9 +13,9 @@ use bag::is_in;
 use counters::Counters;
 use rules::Entry;
 use state::Number;
-use state::numbers::next_of;
-use state::numbers::open_of;
+use state::numbers::current_of;
 use state::numbers::set_value;
+use state::numbers::to_back_of;
 
 // Peer j's counters.
 fn counters_of(s: &[u8], j: u8) -> Counters
@@ -23,27 +23,27 @@ fn counters_of(s: &[u8], j: u8) -> Counters
     ensures { λ r. ⌜ r ≡ countersOf (contents (now (s .entry))) j ⌝ }
 {
     Counters {
-        current: open_of(s, j),
-        to_back: next_of(s, j),
+        current: current_of(s, j),
+        to_back: to_back_of(s, j),
     }
 }
 
 // Raises peer j's open period by one.
-pub fn raise_open(s: &mut [u8], j: u8)
-    requires { ⌜ Canon (now s) × Peer j × (contents (now s) .number (OpenOf j) < 255) ⌝ }
-    ensures { λ _. ⌜ Holds (now (s .exit)) (store (OpenOf j) (contents (now (s .entry)) .number (OpenOf j) + 1) (contents (now (s .entry)))) ⌝ }
+pub fn raise_current(s: &mut [u8], j: u8)
+    requires { ⌜ Canon (now s) × Peer j × (contents (now s) .number (CurrentOf j) < 255) ⌝ }
+    ensures { λ _. ⌜ Holds (now (s .exit)) (store (CurrentOf j) (contents (now (s .entry)) .number (CurrentOf j) + 1) (contents (now (s .entry)))) ⌝ }
 {
     let k = counters::after_close(counters_of(s, j));
-    set_value(s, Number::OpenOf(j), k.current);
+    set_value(s, Number::CurrentOf(j), k.current);
 }
 
 // Raises the next period that peer j is to back by one.
-pub fn raise_next(s: &mut [u8], j: u8)
-    requires { ⌜ Canon (now s) × Peer j × (contents (now s) .number (NextOf j) < 255) ⌝ }
-    ensures { λ _. ⌜ Holds (now (s .exit)) (store (NextOf j) (contents (now (s .entry)) .number (NextOf j) + 1) (contents (now (s .entry)))) ⌝ }
+pub fn raise_to_back(s: &mut [u8], j: u8)
+    requires { ⌜ Canon (now s) × Peer j × (contents (now s) .number (ToBackOf j) < 255) ⌝ }
+    ensures { λ _. ⌜ Holds (now (s .exit)) (store (ToBackOf j) (contents (now (s .entry)) .number (ToBackOf j) + 1) (contents (now (s .entry)))) ⌝ }
 {
     let k = counters::after_back(counters_of(s, j));
-    set_value(s, Number::NextOf(j), k.to_back);
+    set_value(s, Number::ToBackOf(j), k.to_back);
 }
 
 // Enters an entry, unless it is there; there is room for it.

@@ -5,12 +5,12 @@ ghost use Rattle.view.specs.View.{noClash};
 ghost use Rattle.view.specs.Ready.{Ready};
 ghost use Rattle.steps.specs.Stepped.{Stepped};
 use crate::change::enter;
-use crate::change::raise_next;
-use crate::change::raise_open;
+use crate::change::raise_current;
+use crate::change::raise_to_back;
 use rules::Entry;
 use state::Fact;
 use state::facts::add_fact;
-use state::numbers::next_of;
+use state::numbers::to_back_of;
 use support::entry::board_named;
 use view::Head;
 
@@ -23,7 +23,7 @@ pub fn step_close(s: &mut [u8], h: Head, j: u8) -> u8
     if a != 0 {
         return a;
     }
-    raise_open(s, j);
+    raise_current(s, j);
     0
 }
 
@@ -72,14 +72,14 @@ pub fn step_back(s: &mut [u8], h: Head, j: u8) -> u8
     requires { ⌜ Ready h (now s) ⌝ }
     ensures { λ r. ⌜ Stepped h noClash (now (s .entry)) (now (s .exit)) (Back j) r ⌝ }
 {
-    let c = next_of(s, j);
+    let c = to_back_of(s, j);
     let board = support::boards::board_by(s, h, j, c);
     let a = judge::closing::judge_back(s, h, j, c, board);
     if a != 0 {
         return a;
     }
     enter(s, Entry::Backing(j, c, board));
-    raise_next(s, j);
+    raise_to_back(s, j);
     0
 }
 

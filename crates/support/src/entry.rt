@@ -3,14 +3,14 @@ ghost use mathlib.Core.Path.{_≡_};
 ghost use mathlib.Core.Bool.{not};
 ghost use Rattle.rules.specs.Bag.{isHash, isBacking, isFull, entryAt, periodOf, boardOf, boardNamed};
 ghost use Rattle.rules.specs.Rules.{notClosed};
-ghost use Rattle.state.specs.declared.Number.the-variants.{OpenOf};
+ghost use Rattle.state.specs.declared.Number.the-variants.{CurrentOf};
 ghost use Rattle.state.specs.Contents.{contents, Canon};
 use bag::bag_len;
 use bag::entry_at;
 use bag::is_in;
 use rules::Entry;
 use state::layout;
-use state::numbers::open_of;
+use state::numbers::current_of;
 
 // Whether the entry is a hash.
 fn is_hash(x: Entry) -> bool
@@ -84,9 +84,9 @@ pub fn not_backing(s: &[u8], e: u8) -> bool
 // Peer j has not closed the period of entry e.
 pub fn entry_not_closed(s: &[u8], j: u8, e: u8) -> bool
     requires { ⌜ Canon (now s) ⌝ }
-    ensures { λ r. ⌜ r ≡ notClosed (contents (now (s .entry)) .number (OpenOf j)) (periodOf (entryAt (contents (now (s .entry)) .bag) e)) ⌝ }
+    ensures { λ r. ⌜ r ≡ notClosed (contents (now (s .entry)) .number (CurrentOf j)) (periodOf (entryAt (contents (now (s .entry)) .bag) e)) ⌝ }
 {
-    open_of(s, j) <= period_of(entry_at(s, e as usize))
+    current_of(s, j) <= period_of(entry_at(s, e as usize))
 }
 
 // The entry is new, and there is no room for it. Nothing is looked for while there is room.

@@ -7,7 +7,7 @@ use Rattle.base.proofs.Truth.{split, imp-i, and-i, and-l, and-r}
 use Rattle.base.proofs.Below.{every-at, every-of}
 use Rattle.bits.specs.Row.{bitAt}
 use Rattle.state.specs.declared.Fact.{Fact}
-use Rattle.state.specs.Layout.{openAt}
+use Rattle.state.specs.Layout.{currentAt}
 use Rattle.state.specs.Facts.{inRange}
 use Rattle.state.specs.Places.{place, factAt}
 use Rattle.state.specs.Contents.{contents}
@@ -27,10 +27,10 @@ module _ (h : Head) (s : List ℕ) where
       let within = range-within f (and-l (inRange f) _ e) in
       let at = fact-at f within in
       subst (λ (g : Fact). factOk h (contents s .bag) g ≡ true) at
-      (there (bitAt s (place f)) _ (every-at (λ a. not (bitAt s a) || factOk h (contents s .bag) (factAt a)) (8 * openAt) ok (place f) (place-lt f within)) (and-r (inRange f) _ e))
+      (there (bitAt s (place f)) _ (every-at (λ a. not (bitAt s a) || factOk h (contents s .bag) (factAt a)) (8 * currentAt) ok (place f) (place-lt f within)) (and-r (inRange f) _ e))
 
   pub ok-of-facts : ((f : Fact) → contents s .has f ≡ true → factOk h (contents s .bag) f ≡ true) → factsOk h s ≡ true
   unfolding factsOk contents
-  ok-of-facts all = every-of (8 * openAt) (λ a. not (bitAt s a) || factOk h (contents s .bag) (factAt a)) (λ a l. imp-i _ _ (λ e.
+  ok-of-facts all = every-of (8 * currentAt) (λ a. not (bitAt s a) || factOk h (contents s .bag) (factAt a)) (λ a l. imp-i _ _ (λ e.
       let at = at-place a l in
       all (factAt a) (and-i _ _ (within-range (factAt a) (at .0)) (ap (bitAt s) (at .1) ∙ e))))

@@ -10,8 +10,8 @@ use Rattle.base.specs.Below.{every}
 use Rattle.base.specs.Bytes.{byteAt}
 use Rattle.base.proofs.Chain.{by-loop}
 use Rattle.state.specs.declared.Number.{Number}
-use Rattle.state.specs.declared.Number.the-variants.{OpenOf, NextOf, DownOf}
-use Rattle.state.specs.Layout.{peers, openAt, nextAt, downAt}
+use Rattle.state.specs.declared.Number.the-variants.{CurrentOf, ToBackOf, DownOf}
+use Rattle.state.specs.Layout.{peers, currentAt, toBackAt, downAt}
 use Rattle.state.specs.Numbers.{peerOf, slot}
 use Rattle.state.specs.Contents.{contents}
 use Rattle.view.specs.declared.Head.{Head}
@@ -50,8 +50,8 @@ module _ (h : Head) (s : List ℕ) where
   number-at i o n l p q =
       rw (p, le-leb 1 (i + 1) (omega arith), le-leb (i + 1) peers (omega arith), q) (ap (λ (k : ℕ). byteAt s (o + k)) {x = i + 1 - 1} {y = i} (omega arith))
 
-  pub by-peer : (i : ℕ) (r : Bool) → r ≡ numbersOk h (i + 1) (byteAt s (openAt + i)) (byteAt s (nextAt + i)) (byteAt s (downAt + i)) → i < peers → r ≡ peerAtOk i
+  pub by-peer : (i : ℕ) (r : Bool) → r ≡ numbersOk h (i + 1) (byteAt s (currentAt + i)) (byteAt s (toBackAt + i)) (byteAt s (downAt + i)) → i < peers → r ≡ peerAtOk i
   unfolding peerAtOk peerOk
-  by-peer i r e l = e ∙ rw (number-at i openAt (OpenOf (i + 1)) l refl refl, number-at i nextAt (NextOf (i + 1)) l refl refl, number-at i downAt (DownOf (i + 1)) l refl refl)
+  by-peer i r e l = e ∙ rw (number-at i currentAt (CurrentOf (i + 1)) l refl refl, number-at i toBackAt (ToBackOf (i + 1)) l refl refl, number-at i downAt (DownOf (i + 1)) l refl refl)
 
 pub ruleset by-each-peer = (by-loop, by-peers, by-peer)

@@ -59,7 +59,7 @@ module _ (h : Head) (s : List ℕ) where
         good = λ clash. record {
           valid = record {
             sets = sets-of-ok clash facts;
-            counters = record { opens = λ j. N j .open-at-most; behind = λ j. N j .next-at-most; peers = λ j q. N j .has-open q };
+            counters = record { opens = λ j. N j .current-at-most; behind = λ j. N j .to-back-at-most; peers = λ j q. N j .has-current q };
             down = λ j e. N j .is-down (omega (arith, eqb-true (contents s .number (DownOf j)) 1 e));
             bag = bag-of-ok h clash s bag;
             heard = heard-of-ok clash facts;
@@ -97,10 +97,10 @@ module _ (h : Head) (s : List ℕ) where
 
     numbers : (j : ℕ) → Numbers h (contents s) j
     numbers j = record {
-      open-at-most = W .counters .opens j;
-      next-at-most = W .counters .behind j;
+      current-at-most = W .counters .opens j;
+      to-back-at-most = W .counters .behind j;
       flag = R .good noClash .sound .flags j;
-      has-open = W .counters .peers j;
+      has-current = W .counters .peers j;
       is-down = λ q. W .down j (eq-eqb (contents s .number (DownOf j)) 1 (omega (arith, R .good noClash .sound .flags j)));
     }
 

@@ -15,7 +15,7 @@ use Rattle.base.proofs.Chain.{stop, pass}
 use Rattle.bits.specs.Row.{bitAt}
 use Rattle.rules.specs.declared.Entry.{Entry}
 use Rattle.state.specs.declared.Fact.{Fact}
-use Rattle.state.specs.Layout.{peers, periods, items, peerBytes, itemBytes, postedAt, signedAt, sharedAt, receiptedAt, heldAt, databaseAt, heardAt, openAt}
+use Rattle.state.specs.Layout.{peers, periods, items, peerBytes, itemBytes, postedAt, signedAt, sharedAt, receiptedAt, heldAt, databaseAt, heardAt, currentAt}
 use Rattle.state.specs.Facts.{Within}
 use Rattle.state.specs.Places.{place, factAt, postedBy, signedBy, sharedBy, receiptedBy, heldBy, knownBy, heardBy}
 use Rattle.state.specs.Contents.{contents}
@@ -108,7 +108,7 @@ module _ (h : Head) (s : List ℕ) where
   pub facts-by-region : factsOk h s ≡ (itemSetsOk h s && (peerSetsOk h s && heardOk h s))
   unfolding factsOk bitOk
   facts-by-region =
-      every-ext (8 * openAt) bitOk (λ k. bitOk (0 + k)) (λ k l. ap bitOk (omega arith))
+      every-ext (8 * currentAt) bitOk (λ k. bitOk (0 + k)) (λ k l. ap bitOk (omega arith))
       ∙ then (8 * postedAt) 64 160256 _ _ posted
       (then (8 * signedAt) 8192 152064 _ _ signed
       (then (8 * sharedAt) 8192 143872 _ _ shared

@@ -4,10 +4,10 @@ ghost use lib.ListN.{length};
 ghost use Rattle.state.specs.Layout.{size};
 ghost use Rattle.view.specs.StateOk.{numbersOk, peersOk};
 use base::wide;
+use state::layout::CURRENT;
 use state::layout::DOWN;
-use state::layout::NEXT;
-use state::layout::OPEN;
 use state::layout::PEERS;
+use state::layout::TO_BACK;
 use view::Head;
 
 // Whether p, c and the flag of peer j are within the table's ranges.
@@ -33,7 +33,7 @@ pub(crate) fn peers_ok(s: &[u8], h: Head) -> bool
 {
     let mut i = 0;
     while i < PEERS {
-        if !numbers_ok(h, i + 1, s[OPEN + i], s[NEXT + i], s[DOWN + i]) {
+        if !numbers_ok(h, i + 1, s[CURRENT + i], s[TO_BACK + i], s[DOWN + i]) {
             return false;
         }
         i += 1;

@@ -19,7 +19,7 @@ use Rattle.rules.specs.State.{with-bag, with-down, with-heard, with-toBack}
 use Rattle.rules.specs.Rules.{rule, addRows}
 use Rattle.rules.proofs.Answered.{Clear, judged}
 use Rattle.state.specs.declared.Fact.the-variants.{Heard}
-use Rattle.state.specs.declared.Number.the-variants.{NextOf, DownOf}
+use Rattle.state.specs.declared.Number.the-variants.{ToBackOf, DownOf}
 use Rattle.state.specs.Contents.{Contents, adding, insert, store, withEntry}
 use Rattle.sets.specs.Sets.{knownTo}
 use Rattle.database.specs.Database.{fetched}
@@ -52,7 +52,7 @@ module _ (c : Contents) (S : Sound c) where
       go (inl t) = rw t
       go (inr f) = rw f (ap (with-heard (with-bag (stateOf c) (c .bag ++ (e ∷ [])))) (heard-still e))
 
-  back-meets : (j v : ℕ) (e : Entry) → stateOf (store (NextOf j) v (enterOn e c)) ≡ with-toBack (with-bag (stateOf c) (enter e (c .bag))) (setAt j v (stateOf c .toBack))
+  back-meets : (j v : ℕ) (e : Entry) → stateOf (store (ToBackOf j) v (enterOn e c)) ≡ with-toBack (with-bag (stateOf c) (enter e (c .bag))) (setAt j v (stateOf c .toBack))
   unfolding store setAt
   back-meets j v e = λ i. with-toBack (enter-meets e i) (λ k. cond (eqb k j) v (enter-meets e i .toBack k))
 

@@ -9,7 +9,7 @@ use Rattle.rules.specs.Table.{Table}
 use Rattle.rules.specs.Bag.{isIn, boardNamed}
 use Rattle.rules.specs.Rules.{boardBy}
 use Rattle.state.specs.declared.Fact.the-variants.{Posted, Signed, Shared, Receipted, Held, Known, Heard}
-use Rattle.state.specs.declared.Number.the-variants.{OpenOf, NextOf, DownOf}
+use Rattle.state.specs.declared.Number.the-variants.{CurrentOf, ToBackOf, DownOf}
 use Rattle.state.specs.Contents.{Contents, insert, store, withEntry}
 use Rattle.database.specs.Database.{fetched}
 use Rattle.view.specs.View.{stateOf}
@@ -20,16 +20,16 @@ enterOn e c = cond (isIn e (c .bag)) c (withEntry e c)
 
 unfoldable pub effectOn : Table → Contents → Step → Contents
 effectOn T c (Post x) = insert (Posted x) c
-effectOn T c (Hand j x) = insert (Held j (c .number (OpenOf j)) x) c
-effectOn T c (Sign j x) = insert (Known j (c .number (OpenOf j)) x j) (insert (Signed j (c .number (OpenOf j)) x) c)
+effectOn T c (Hand j x) = insert (Held j (c .number (CurrentOf j)) x) c
+effectOn T c (Sign j x) = insert (Known j (c .number (CurrentOf j)) x j) (insert (Signed j (c .number (CurrentOf j)) x) c)
 effectOn T c (Take j k p x) = insert (Known j p x k) c
-effectOn T c (Share j x) = insert (Shared j (c .number (OpenOf j)) x) c
+effectOn T c (Share j x) = insert (Shared j (c .number (CurrentOf j)) x) c
 effectOn T c (Receipt p x) = insert (Receipted p x) c
-effectOn T c (Close j) = store (OpenOf j) (c .number (OpenOf j) + 1) c
+effectOn T c (Close j) = store (CurrentOf j) (c .number (CurrentOf j) + 1) c
 effectOn T c (Fetch j k p) = fetched j k p c
 effectOn T c (SendHash j p) = enterOn (Hash j p (boardBy T (stateOf c) j p)) c
 effectOn T c (Hear j e) = insert (Heard j e) c
-effectOn T c (Back j) = store (NextOf j) (c .number (NextOf j) + 1) (enterOn (Backing j (c .number (NextOf j)) (boardBy T (stateOf c) j (c .number (NextOf j)))) c)
+effectOn T c (Back j) = store (ToBackOf j) (c .number (ToBackOf j) + 1) (enterOn (Backing j (c .number (ToBackOf j)) (boardBy T (stateOf c) j (c .number (ToBackOf j)))) c)
 effectOn T c (Publish e) = enterOn (boardNamed (c .bag) e) c
 effectOn T c (FalseSignature j p x) = insert (Signed j p x) c
 effectOn T c (FalseShare j p x) = insert (Shared j p x) c

@@ -14,8 +14,8 @@ use Rattle.rules.specs.Bag.{isHash, entryAt as entryOfBag}
 use Rattle.rules.specs.Valid.{different}
 use Rattle.state.specs.declared.Fact.{Fact}
 use Rattle.state.specs.declared.Fact.the-variants.{Posted, Signed, Shared, Receipted, Held, Known, Heard}
-use Rattle.state.specs.declared.Number.the-variants.{OpenOf, NextOf, DownOf}
-use Rattle.state.specs.Layout.{peers, entries, openAt, entryStart, signerIn, size}
+use Rattle.state.specs.declared.Number.the-variants.{CurrentOf, ToBackOf, DownOf}
+use Rattle.state.specs.Layout.{peers, entries, currentAt, entryStart, signerIn, size}
 use Rattle.state.specs.Places.{factAt}
 use Rattle.rules.specs.Bag.{kindOf, signerOf}
 use Rattle.state.specs.Contents.{Contents, count, entryAt, contents}
@@ -50,7 +50,7 @@ module _ (h : Head) where
 
   -- every fact that is there is of the table
   unfoldable pub factsOk : List ℕ → Bool
-  factsOk s = every (8 * openAt) (λ a. not (bitAt s a) || factOk (contents s .bag) (factAt a))
+  factsOk s = every (8 * currentAt) (λ a. not (bitAt s a) || factOk (contents s .bag) (factAt a))
 
   -- of peer j: p is at most P, c at most p, and the flag d is 0 or 1; a peer that the table does not have has none of these
   unfoldable pub numbersOk : ℕ → ℕ → ℕ → ℕ → Bool
@@ -58,7 +58,7 @@ module _ (h : Head) where
 
   -- the three numbers of peer j
   unfoldable pub peerOk : Contents → ℕ → Bool
-  peerOk c j = numbersOk j (c .number (OpenOf j)) (c .number (NextOf j)) (c .number (DownOf j))
+  peerOk c j = numbersOk j (c .number (CurrentOf j)) (c .number (ToBackOf j)) (c .number (DownOf j))
 
   -- so it is of each peer for which there is room
   unfoldable pub peersOk : List ℕ → Bool

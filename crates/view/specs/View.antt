@@ -13,7 +13,7 @@ use Rattle.rules.specs.Bag.{sameEntry}
 use Rattle.rules.specs.State.{State}
 use Rattle.rules.specs.Rules.{answer, boardBy}
 use Rattle.state.specs.declared.Fact.the-variants.{Posted, Signed, Shared, Receipted, Held, Known, Heard}
-use Rattle.state.specs.declared.Number.the-variants.{OpenOf, NextOf, DownOf}
+use Rattle.state.specs.declared.Number.the-variants.{CurrentOf, ToBackOf, DownOf}
 use Rattle.state.specs.Contents.{Contents, contents}
 use Rattle.view.specs.declared.Head.{Head}
 
@@ -46,8 +46,8 @@ stateOf c = record {
   held = λ j p x. c .has (Held j p x);
   db = λ j p x k. c .has (Known j p x k);
   heard = λ j k p B. told (λ e. c .has (Heard j e)) 0 (c .bag) k p B;
-  current = λ j. c .number (OpenOf j);
-  toBack = λ j. c .number (NextOf j);
+  current = λ j. c .number (CurrentOf j);
+  toBack = λ j. c .number (ToBackOf j);
 }
 
 -- the answer of the rules to a step on what the bytes say

@@ -7,8 +7,8 @@ use Rattle.steps.proofs.Did.{did-back, still-canon}
 use Rattle.steps.proofs.closing.step_back.Statement.{statement}
 use Rattle.steps.proofs.closing.step_back.Tie as tie
 
-next-of-requires : tie.Need-next-of-requires
-next-of-requires c κs = search asked
+to-back-of-requires : tie.Need-to-back-of-requires
+to-back-of-requires c κs = search asked
 
 board-by-requires : tie.Need-board-by-requires
 board-by-requires c κs = search asked
@@ -16,7 +16,7 @@ board-by-requires c κs = search asked
 judge-back-requires : tie.Need-judge-back-requires
 judge-back-requires c κs =
     let ready = c .before .before .before .before .before .before .pre in
-    let period = c .before .before .before .next-of .ensures in
+    let period = c .before .before .before .to-back-of .ensures in
     let own = c .before .board-by .ensures in
     (ready, period, of-next _ _ _ ready _ _ _ period own)
 
@@ -32,11 +32,11 @@ enter-requires c κs =
     let making = judging .before .before in
     let reading = making .before .before in
     let ready = reading .before .before .before .pre in
-    let period = reading .next-of .ensures in
+    let period = reading .to-back-of .ensures in
     (search asked, room-for-backing _ _ _ ready _ _ _ (judging .judge-back .ensures) (search needs) period (of-next _ _ _ ready _ _ _ period (making .board-by .ensures)))
 
-raise-next-requires : tie.Need-raise-next-requires
-raise-next-requires c κs =
+raise-to-back-requires : tie.Need-raise-to-back-requires
+raise-to-back-requires c κs =
     let entering = c .before .before .before in
     let judging = entering .before .before .before in
     let reading = judging .before .before .before .before in
@@ -54,19 +54,19 @@ returns-2 c =
     let judging = entering .before .before .before in
     let making = judging .before .before in
     let reading = making .before .before in
-    let did = did-back _ _ _ _ _ _ _ (reading .next-of .ensures) (making .board-by .ensures) (entering .enter .ensures) (raising .raise-next .ensures) in
+    let did = did-back _ _ _ _ _ _ _ (reading .to-back-of .ensures) (making .board-by .ensures) (entering .enter .ensures) (raising .raise-to-back .ensures) in
     taken _ _ _ _ _ (judging .judge-back .ensures) (search needs) did
 
 pub step-back-spec : {M : Type 1} → statement M
 step-back-spec =
     tie.close
     (tie.spec
-    next-of-requires
+    to-back-of-requires
     board-by-requires
     judge-back-requires
     same-length
     returns
     enter-requires
-    raise-next-requires
+    raise-to-back-requires
     same-length-2
     returns-2)

@@ -16,8 +16,8 @@ same-length c = search needs
 returns : tie.Need-returns
 returns c = search refused
 
-raise-open-requires : tie.Need-raise-open-requires
-raise-open-requires c κs = search (asked, may-close, close-fits) depth 6
+raise-current-requires : tie.Need-raise-current-requires
+raise-current-requires c κs = search (asked, may-close, close-fits) depth 6
 
 same-length-2 : tie.Need-same-length-2
 same-length-2 c = search needs
@@ -32,6 +32,6 @@ step-close-spec =
     judge-close-requires
     same-length
     returns
-    raise-open-requires
+    raise-current-requires
     same-length-2
     returns-2)

@@ -6,8 +6,8 @@ use borrow.Author.Needs.{needs}
 use Rattle.support.proofs.entry.entry_not_closed.Statement.{statement}
 use Rattle.support.proofs.entry.entry_not_closed.Tie as tie
 
-open-of-requires : tie.Need-open-of-requires
-open-of-requires c κs = search needs
+current-of-requires : tie.Need-current-of-requires
+current-of-requires c κs = search needs
 
 entry-at-requires : tie.Need-entry-at-requires
 entry-at-requires c κs = search needs
@@ -16,8 +16,8 @@ period-of-requires : tie.Need-period-of-requires
 period-of-requires c κs = search needs
 
 returns : tie.Need-returns
-returns c = at-most-read (c .before .before .open-of .ensures) (c .period-of .ensures ∙ ap periodOf (c .before .entry-at .ensures))
+returns c = at-most-read (c .before .before .current-of .ensures) (c .period-of .ensures ∙ ap periodOf (c .before .entry-at .ensures))
 
 pub entry-not-closed-spec : {M : Type 1} → statement M
 entry-not-closed-spec =
-    tie.close (tie.spec open-of-requires entry-at-requires period-of-requires returns)
+    tie.close (tie.spec current-of-requires entry-at-requires period-of-requires returns)

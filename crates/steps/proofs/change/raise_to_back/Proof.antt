@@ -1,8 +1,8 @@
--- By `raised-next`.
-use Rattle.steps.proofs.Raised.{to-back-lt, raised-next}
+-- By `raised-to-back`.
+use Rattle.steps.proofs.Raised.{to-back-lt, raised-to-back}
 use borrow.Author.Needs.{needs}
-use Rattle.steps.proofs.change.raise_next.Statement.{statement}
-use Rattle.steps.proofs.change.raise_next.Tie as tie
+use Rattle.steps.proofs.change.raise_to_back.Statement.{statement}
+use Rattle.steps.proofs.change.raise_to_back.Tie as tie
 
 counters-of-requires : tie.Need-counters-of-requires
 counters-of-requires c κs = search needs
@@ -17,9 +17,9 @@ same-length : tie.Need-same-length
 same-length c = search needs
 
 returns : tie.Need-returns
-returns c = search raised-next
+returns c = search raised-to-back
 
-pub raise-next-spec : {M : Type 1} → statement M
-raise-next-spec =
+pub raise-to-back-spec : {M : Type 1} → statement M
+raise-to-back-spec =
     tie.close
     (tie.spec counters-of-requires after-back-requires set-value-requires same-length returns)

@@ -3,8 +3,8 @@ use mathlib.Core.Path.{sym, _∙_}
 use Rattle.state.proofs.Ranges.{peer-within}
 use Rattle.state.proofs.Frame.{no-number}
 use borrow.Author.Needs.{needs}
-use Rattle.state.proofs.numbers.open_of.Statement.{statement}
-use Rattle.state.proofs.numbers.open_of.Tie as tie
+use Rattle.state.proofs.numbers.current_of.Statement.{statement}
+use Rattle.state.proofs.numbers.current_of.Tie as tie
 
 is-peer-requires : tie.Need-is-peer-requires
 is-peer-requires c κs = search needs
@@ -18,5 +18,5 @@ returns c = search needs
 returns-2 : tie.Need-returns-2
 returns-2 c = search no-number
 
-pub open-of-spec : {M : Type 1} → statement M
-open-of-spec = tie.close (tie.spec is-peer-requires value-of-requires returns returns-2)
+pub current-of-spec : {M : Type 1} → statement M
+current-of-spec = tie.close (tie.spec is-peer-requires value-of-requires returns returns-2)

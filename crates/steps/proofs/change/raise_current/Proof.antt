@@ -1,8 +1,8 @@
--- By `raised-open`.
-use Rattle.steps.proofs.Raised.{current-lt, raised-open}
+-- By `raised-current`.
+use Rattle.steps.proofs.Raised.{current-lt, raised-current}
 use borrow.Author.Needs.{needs}
-use Rattle.steps.proofs.change.raise_open.Statement.{statement}
-use Rattle.steps.proofs.change.raise_open.Tie as tie
+use Rattle.steps.proofs.change.raise_current.Statement.{statement}
+use Rattle.steps.proofs.change.raise_current.Tie as tie
 
 counters-of-requires : tie.Need-counters-of-requires
 counters-of-requires c κs = search needs
@@ -17,9 +17,9 @@ same-length : tie.Need-same-length
 same-length c = search needs
 
 returns : tie.Need-returns
-returns c = search raised-open
+returns c = search raised-current
 
-pub raise-open-spec : {M : Type 1} → statement M
-raise-open-spec =
+pub raise-current-spec : {M : Type 1} → statement M
+raise-current-spec =
     tie.close
     (tie.spec counters-of-requires after-close-requires set-value-requires same-length returns)
