@@ -37,7 +37,9 @@ loop-less : tie.Need-loop-less Inv-loop μ-loop
 loop-less c = search needs
 
 loop-again : tie.Need-loop-again Inv-loop μ-loop
-loop-again c = (search needs, hashes-more _ _ _ _ (omega arith) (c .before .before .before .before .before .loop .inv .1) (c .before .put-if .ensures))
+loop-again c =
+    let l = c .before .before .before .before .before .loop in
+    (search needs, hashes-more _ _ _ _ (omega arith) (l .inv .1) (c .before .put-if .ensures))
 
 returns : tie.Need-returns Inv-loop μ-loop
 returns c = search hashes-all

@@ -24,10 +24,14 @@ shl-result : tie.Need-shl-result
 shl-result c = search needs
 
 sub-result : tie.Need-sub-result
-sub-result c = rw (shl-one 8 (c .before .before .before .before .args .n % 8) (omega arith)) (omega (arith, pow-pos (c .before .before .before .before .args .n % 8)))
+sub-result c =
+    let rest = c .before .before .before .before .args .n % 8 in
+    rw (shl-one 8 rest (omega arith)) (omega (arith, pow-pos rest))
 
 returns-3 : tie.Need-returns-3
-returns-3 c = rw (shl-one 8 (c .before .before .before .before .args .n % 8) (omega arith)) (first-last _ _ (omega arith))
+returns-3 c =
+    let rest = c .before .before .before .before .args .n % 8 in
+    rw (shl-one 8 rest (omega arith)) (first-last _ _ (omega arith))
 
 pub first-byte-spec : {M : Type 1} → statement M
 first-byte-spec =

@@ -41,7 +41,9 @@ loop-less : tie.Need-loop-less Inv-loop μ-loop
 loop-less c = search needs
 
 loop-again : tie.Need-loop-again Inv-loop μ-loop
-loop-again c = (search needs, only-more _ _ _ _ (c .before .before .before .before .loop .beside) (c .before .before .before .before .loop .inv .1) (c .before .before .shared-slice-known .given _ .fits) (c .before .shared-slice-known2 .given _ .fits))
+loop-again c =
+    let l = c .before .before .before .before .loop in
+    (search needs, only-more _ _ _ _ (l .beside) (l .inv .1) (c .before .before .shared-slice-known .given _ .fits) (c .before .shared-slice-known2 .given _ .fits))
 
 returns : tie.Need-returns Inv-loop μ-loop
 returns c = every-all _ _ _ _ (omega arith) (c .before .loop .inv .1) ∙ sym (only-bytes _ _ _ _)
