@@ -1,6 +1,6 @@
 // The steps, each run in place and answered by a line, and the report around them.
 ghost use mathlib.Core.Path.{_≡_};
-ghost use Prim.Native.Nat.{_≤_, _<_};
+ghost use Prim.Native.Nat.{_<_};
 ghost use lib.ListN.{length};
 ghost use Rattle.state.specs.Layout.{size};
 ghost use Rattle.text.specs.Wrote.{Wrote};

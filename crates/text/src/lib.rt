@@ -1,7 +1,6 @@
 // Text written into a lent buffer: bytes, words and numbers, each at the place where the one before it ended.
 // A place is handed on by value. What lies past the buffer's end is counted and not written.
 // It uses io for decimal digits, and no other crate.
-ghost use mathlib.Core.Path.{_≡_};
 ghost use mathlib.Core.List.{[], _∷_};
 ghost use Rattle.text.specs.Wrote.{Wrote};
 ghost use Rattle.text.specs.Decimal.{decimal, field};
