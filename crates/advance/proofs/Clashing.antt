@@ -1,10 +1,9 @@
 -- What clashes is asked of a hand alone, and there its item's row is enough: so steps that see no table do what the rules say of it.
-use Prim.Native.Nat.{ℕ, _<_, _≤_}
+use Prim.Native.Nat.{ℕ}
 use native.Mathlib.Omega.{arith}
 use mathlib.Core.Bool.{Bool, true, false, _&&_}
 use mathlib.Core.List.{List}
 use mathlib.Core.Path.{_≡_, refl, sym, ap, subst, _∙_}
-use Rattle.base.specs.Below.{any}
 use Rattle.base.specs.Bits.{bit}
 use Rattle.base.proofs.Below.{any-ext}
 use Rattle.base.proofs.Bits.{bit-pack}
@@ -15,8 +14,7 @@ use Rattle.rules.specs.declared.Step.{Step}
 use Rattle.rules.specs.declared.Step.the-variants.{Post, Hand, Sign, Take, Share, Receipt, Close, Fetch, SendHash, Hear, Back, Publish, FalseSignature, FalseShare, FalseHash, FalseBacking, Down, Up}
 use Rattle.rules.specs.Table.{clashing}
 use Rattle.rules.specs.Rules.{rule, answer, boardFrom}
-use Rattle.state.specs.Contents.{Contents, contents}
-use Rattle.state.specs.Encode.{encode}
+use Rattle.state.specs.Contents.{contents}
 use Rattle.view.specs.declared.Head.{Head}
 use Rattle.view.specs.View.{noClash, inRow, tableOf, stateOf, answerOn}
 use Rattle.view.specs.Effect.{effectOn}

@@ -1,17 +1,13 @@
 -- Demand 3, over table bytes and lists of byte lists: for every table that is taken and has at least t honest peers.
-use Prim.Native.Nat.{ℕ, zero, suc, _≤_}
-use native.Mathlib.Omega.{arith}
+use Prim.Native.Nat.{ℕ, _≤_}
 use mathlib.Core.List.{List, [], _∷_}
 use mathlib.Core.Path.{_≡_, refl, sym, ap, ap₂, subst, fun-ext, _∙_}
-use Rattle.base.specs.Weight.{ones}
-use Rattle.base.proofs.Weight.{weight-ext}
 use Rattle.header.specs.Header.{thresholdOf, isHonest, honestCount}
-use Rattle.clash.specs.Clash.{clashIn}
 use Rattle.ballot.specs.Table.{refusal}
 use Rattle.clash.proofs.Relation.{clash-in-sym, clash-in-self}
 use Rattle.ballot.proofs.Sound.{sound}
 use Rattle.rules.specs.Table.{Table}
-use Rattle.rules.specs.State.{State, fresh}
+use Rattle.rules.specs.State.{State}
 use Rattle.rules.specs.Form.{read}
 use Rattle.rules.specs.Ideal.{Fed}
 use Rattle.rules.specs.Run.{World, seenWith, runFrom, run}

@@ -1,7 +1,6 @@
 -- Rows of items that meet, as the rules look for a clash.
-use Prim.Native.Nat.{ℕ, _^_, _≤_, _<_}
+use Prim.Native.Nat.{ℕ, _^_, _<_}
 use native.Mathlib.Omega.{arith}
-use native.Mathlib.Decide.{decLt}
 use mathlib.Core.Bool.{true, false, _&&_}
 use mathlib.Core.List.{List}
 use mathlib.Core.Path.{_≡_, sym, _∙_}
@@ -14,10 +13,10 @@ use borrow.Author.Tests.{eqb-true, eq-eqb}
 use Rattle.base.proofs.Truth.{either, is-false, not-i}
 use Rattle.base.proofs.Bits.{bit-none, bit-ext, bit-and}
 use Rattle.base.specs.Below.{any}
-use Rattle.base.specs.Bits.{bit, pack}
+use Rattle.base.specs.Bits.{bit}
 use Rattle.base.proofs.Truth.{split, iff, and-i, and-l, and-r}
 use Rattle.base.proofs.Below.{any-at, any-found, any-ext}
-use Rattle.base.proofs.Bits.{bit-pack, bit-high, pack-lt}
+use Rattle.base.proofs.Bits.{bit-pack}
 use Rattle.rules.specs.Table.{clashing}
 use Rattle.state.specs.declared.Fact.the-variants.{Held}
 use Rattle.state.specs.Layout.{items}

@@ -1,5 +1,5 @@
 -- How long the report's lines are at most: its numbers are small, and there are so many of each kind.
-use Prim.Native.Nat.{ℕ, zero, suc, _+_, _*_, _^_, _≤_, _<_}
+use Prim.Native.Nat.{ℕ, zero, suc, _+_, _*_, _≤_, _<_}
 use native.Mathlib.Omega.{arith}
 use mathlib.Core.Bool.{Bool, true, false, cond}
 use mathlib.Core.List.{List, [], _++_}
@@ -18,7 +18,7 @@ use Rattle.state.specs.Contents.{Contents}
 use Rattle.sets.specs.Sets.{signerCount}
 use Rattle.view.specs.declared.Head.{Head}
 use Rattle.text.specs.Wrote.{each}
-use Rattle.text.specs.Decimal.{decimal, field}
+use Rattle.text.specs.Decimal.{field}
 use Rattle.text.proofs.Digits.{decimal-most, field-most}
 use Rattle.report.specs.Words.{db, receipt, newline}
 use Rattle.report.specs.Lines.{refusedLine, headLine, stepLine, dbLine, receiptLine, boardItem, boardLine}

@@ -1,7 +1,6 @@
 // What the report shows of a state: databases, receipts, boards, and its last line.
 ghost use mathlib.Core.Path.{_≡_};
 ghost use Prim.Native.Nat.{_+_, _<_, _≤_};
-ghost use Rattle.rules.specs.Bag.{entryAt};
 ghost use Rattle.state.specs.Contents.{contents, Canon};
 ghost use Rattle.text.specs.Wrote.{Wrote};
 ghost use Rattle.report.specs.Rows.{setLine, rowLines, rowIn};

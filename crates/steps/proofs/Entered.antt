@@ -3,13 +3,12 @@ use Prim.Native.Nat.{ℕ, _<_}
 use mathlib.Core.Bool.{Bool, true, false}
 use mathlib.Core.List.{List}
 use mathlib.Core.Path.{_≡_}
-use lib.Dec.{leb}
 use lib.ListN.{length}
 use borrow.Author.Tests.{leb-false}
 use Rattle.rules.specs.declared.Entry.{Entry}
 use Rattle.rules.specs.Bag.{isIn, isFull}
 use Rattle.state.specs.Layout.{entries}
-use Rattle.state.specs.Contents.{Contents, contents, Canon, Holds, withEntry}
+use Rattle.state.specs.Contents.{contents, Canon, Holds, withEntry}
 use Rattle.view.specs.Effect.{enterOn}
 
 pub entered-there : (s : List ℕ) (x : Entry) {r : Bool} → Canon s → r ≡ isIn x (contents s .bag) → r ≡ true → Holds s (enterOn x (contents s))

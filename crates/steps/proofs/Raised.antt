@@ -4,9 +4,8 @@ use mathlib.Core.List.{List}
 use mathlib.Core.Path.{_≡_, sym, ap, subst, _∙_}
 use Rattle.counters.specs.declared.Counters.{Counters}
 use Rattle.counters.specs.Counters.{riseCurrent, riseToBack}
-use Rattle.state.specs.declared.Number.{Number}
 use Rattle.state.specs.declared.Number.the-variants.{CurrentOf, ToBackOf}
-use Rattle.state.specs.Contents.{Contents, contents, Holds, store}
+use Rattle.state.specs.Contents.{Contents, Holds, store}
 use Rattle.steps.specs.Stepped.{countersOf}
 
 pub both-read : (c : Contents) (j p n : ℕ) → p ≡ c .number (CurrentOf j) → n ≡ c .number (ToBackOf j) → _≡_ {A = Counters} (record { current = p; «to_back» = n }) (countersOf c j)

@@ -1,5 +1,4 @@
 // Steps 1 to 6: from a posted item to its receipt.
-ghost use mathlib.Core.Path.{_≡_};
 ghost use Rattle.rules.specs.declared.Step.the-variants.{Post, Hand, Sign, Take, Share, Receipt};
 ghost use Rattle.view.specs.View.{noClash, inRow};
 ghost use Rattle.view.specs.Ready.{Ready};

@@ -1,5 +1,4 @@
 // Steps 13 to 18: what the outsider does, and peers that go down and come up.
-ghost use mathlib.Core.Path.{_≡_};
 ghost use Rattle.rules.specs.declared.Step.the-variants.{FalseSignature, FalseShare, FalseHash, FalseBacking, Down, Up};
 ghost use Rattle.view.specs.View.{noClash};
 ghost use Rattle.view.specs.Ready.{Ready};

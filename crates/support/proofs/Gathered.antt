@@ -1,9 +1,9 @@
 -- Supporters gathered into a set, one entry after the other, and counted as the rules weigh them.
-use Prim.Native.Nat.{ℕ, zero, suc, _+_, _-_, _^_, _≤_, _<_}
+use Prim.Native.Nat.{ℕ, _+_, _-_, _^_, _≤_, _<_}
 use native.Mathlib.Numerals.{add-one}
 use native.Mathlib.Omega.{arith}
 use mathlib.Core.Bool.{Bool, true, false, cond, not, _&&_, _||_}
-use mathlib.Core.List.{List, [], _∷_}
+use mathlib.Core.List.{List}
 use mathlib.Core.Path.{_≡_, refl, sym, ap, ap₂, subst, _∙_}
 use mathlib.Core.Logic.{_⊎_, inl, inr}
 use lib.Bits.{bitOr, or-lt}
@@ -17,12 +17,12 @@ use Rattle.base.specs.Bits.{bit, pack}
 use Rattle.base.specs.Weight.{weight, ones}
 use Rattle.base.proofs.Below.{any-at, any-found}
 use Rattle.base.proofs.Bits.{bit-or, bit-pow, bit-ext, bit-pack, pack-bit, pack-ext, pack-lt}
-use Rattle.base.proofs.Truth.{either, false-true, iff, and-l, and-r, or-l, or-r, or-cases, eqb-self}
+use Rattle.base.proofs.Truth.{either, iff, and-l, and-r, eqb-self}
 use Rattle.base.proofs.Weight.{weight-ext}
 use Rattle.bits.proofs.Count.{ones-pack}
 use Rattle.rules.specs.declared.Entry.{Entry}
 use Rattle.rules.specs.declared.Entry.the-variants.{Hash, Backing, Board}
-use Rattle.rules.specs.Bag.{sameEntry, isIn, isHash, entryAt, kindOf, signerOf, periodOf, boardOf}
+use Rattle.rules.specs.Bag.{isIn, isHash, entryAt, kindOf, signerOf, periodOf, boardOf}
 use Rattle.rules.proofs.Bag.{in-at, at-in}
 use Rattle.state.specs.declared.Fact.the-variants.{Heard}
 use Rattle.state.specs.Layout.{hashKind, backingKind}
