@@ -53,7 +53,7 @@ pub fn run_step(table: &[u8], s: &mut [u8], h: Head, rows: &[u64], step: &[u8]) 
     requires { ⌜ Prepared (now table) h (now rows) × Ready h (now s) ⌝ }
     ensures { λ r. ⌜ (r ≡ stepAnswer (now (table .entry)) (now (s .entry)) (now (step .entry))) × (now (s .exit) ≡ stepBytes (now (table .entry)) (now (s .entry)) (now (step .entry))) ⌝ }
 {
-    match rules::read_step(step) {
+    match form::read_step(step) {
         Call::Formed(st) => advance::advance(table, s, h, rows, st),
         Call::Malformed => 5,
     }

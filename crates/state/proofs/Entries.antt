@@ -1,20 +1,14 @@
 -- Laws of entries: the four numbers and the eleven bytes of an entry give it back.
-use Prim.Native.Nat.{ℕ, _+_, _/_, _%_, _^_, _<_, _≤_}
+use Prim.Native.Nat.{ℕ, _+_, _/_, _%_, _^_, _<_}
 use native.Mathlib.Omega.{arith}
 use mathlib.Core.Bool.{Bool, true, false, cond}
-use mathlib.Core.List.{List}
-use mathlib.Core.Logic.{_⊎_, inl, inr}
 use mathlib.Core.Path.{_≡_, refl, ap}
 use lib.Dec.{eqb}
-use borrow.Author.Tests.{eqb-true, eqb-false}
-use Rattle.base.specs.Bytes.{byteAt}
-use Rattle.base.proofs.Truth.{either}
 use Rattle.rules.specs.declared.Entry.{Entry}
 use Rattle.rules.specs.declared.Entry.the-variants.{Hash, Backing, Board}
-use Rattle.state.specs.Layout.{hashKind, backingKind, boardKind, signerIn, periodIn, boardIn, entryStart}
+use Rattle.state.specs.Layout.{signerIn, periodIn, boardIn}
 use Rattle.rules.specs.Bag.{kindOf, signerOf, periodOf, boardOf}
 use Rattle.state.specs.Entries.{entryOf, entryByte}
-use Rattle.state.specs.Contents.{entryAt, Settled}
 use Rattle.state.proofs.Places.{after}
 
 -- an entry is that of its four numbers
@@ -54,19 +48,3 @@ board-byte x k =
     after o signerIn _ _ _ (omega arith) (
     after o periodIn _ _ _ (omega arith) (
     after o boardIn _ _ _ (omega arith) (ap (λ (n : ℕ). boardOf x / 256 ^ n % 256) (omega arith))))
-
--- an entry's bytes are settled if the kind is one of the three, and a board has no signer
-pub settled-by : (s : List ℕ) (e : ℕ) → hashKind ≤ byteAt s (entryStart e) → byteAt s (entryStart e) ≤ boardKind
-    → (byteAt s (entryStart e) ≡ boardKind → byteAt s (entryStart e + signerIn) ≡ 0) → Settled s e
-unfolding entryAt entryOf
-settled-by s e low high none = go (either (eqb kind hashKind)) (either (eqb kind backingKind))
-  where
-    kind : ℕ
-    kind = byteAt s (entryStart e)
-
-    go : (eqb kind hashKind ≡ true) ⊎ (eqb kind hashKind ≡ false) → (eqb kind backingKind ≡ true) ⊎ (eqb kind backingKind ≡ false) → Settled s e
-    go (inl h) b = record { kind = rw h (eqb-true kind hashKind h); signer = rw h }
-    go (inr h) (inl b) = record { kind = rw (h, b) (eqb-true kind backingKind b); signer = rw (h, b) }
-    go (inr h) (inr b) =
-        let last : kind ≡ boardKind = omega (arith, eqb-false kind hashKind h, eqb-false kind backingKind b) in
-        record { kind = rw (h, b) last; signer = rw (h, b) (none last) }

@@ -1,8 +1,8 @@
 -- Bytes that are not 13 are no step; of 13 bytes the six fields are read, and the op finds its step among them.
-use Rattle.rules.proofs.Form.{other-length, thirteen}
+use Rattle.form.proofs.Ops.{other-length, thirteen}
 use borrow.Author.Needs.{needs}
-use Rattle.rules.proofs.read_step.Statement.{statement}
-use Rattle.rules.proofs.read_step.Tie as tie
+use Rattle.form.proofs.read_step.Statement.{statement}
+use Rattle.form.proofs.read_step.Tie as tie
 
 returns : tie.Need-returns
 returns c = other-length _ (c .if1 .taken)

@@ -1,8 +1,8 @@
 -- A sum of numbers is 0 where each of them is.
 use native.Mathlib.Omega.{arith}
-use Rattle.rules.proofs.Form.{some-not, last-one}
-use Rattle.rules.proofs.all_zero.Statement.{statement}
-use Rattle.rules.proofs.all_zero.Tie as tie
+use Rattle.form.proofs.Ops.{some-not, last-one}
+use Rattle.form.proofs.all_zero.Statement.{statement}
+use Rattle.form.proofs.all_zero.Tie as tie
 
 returns : tie.Need-returns
 returns c = some-not _ _ _ _ (omega arith)

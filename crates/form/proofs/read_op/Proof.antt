@@ -1,9 +1,9 @@
--- A row of early returns over the ops from 10 on; no other op has a step.
-use Rattle.rules.specs.Form.{laterOps}
-use Rattle.rules.proofs.Form.{by-op}
+-- A row of early returns over the ops: the first that fits gives the step; what is left goes to read_later.
+use Rattle.rules.specs.Form.{ops}
+use Rattle.form.proofs.Ops.{by-op}
 use borrow.Author.Needs.{needs}
-use Rattle.rules.proofs.read_later.Statement.{statement}
-use Rattle.rules.proofs.read_later.Tie as tie
+use Rattle.form.proofs.read_op.Statement.{statement}
+use Rattle.form.proofs.read_op.Tie as tie
 
 all-zero-requires : tie.Need-all-zero-requires
 all-zero-requires c κs = search needs
@@ -12,7 +12,7 @@ formed-requires : tie.Need-formed-requires
 formed-requires c κs = search needs
 
 returns : tie.Need-returns
-unfolding laterOps
+unfolding ops
 returns c = search by-op depth 12
 
 all-zero-requires-2 : tie.Need-all-zero-requires-2
@@ -22,7 +22,7 @@ formed-requires-2 : tie.Need-formed-requires-2
 formed-requires-2 c κs = search needs
 
 returns-2 : tie.Need-returns-2
-unfolding laterOps
+unfolding ops
 returns-2 c = search by-op depth 12
 
 all-zero-requires-3 : tie.Need-all-zero-requires-3
@@ -32,7 +32,7 @@ formed-requires-3 : tie.Need-formed-requires-3
 formed-requires-3 c κs = search needs
 
 returns-3 : tie.Need-returns-3
-unfolding laterOps
+unfolding ops
 returns-3 c = search by-op depth 12
 
 all-zero-requires-4 : tie.Need-all-zero-requires-4
@@ -42,7 +42,7 @@ formed-requires-4 : tie.Need-formed-requires-4
 formed-requires-4 c κs = search needs
 
 returns-4 : tie.Need-returns-4
-unfolding laterOps
+unfolding ops
 returns-4 c = search by-op depth 12
 
 all-zero-requires-5 : tie.Need-all-zero-requires-5
@@ -52,7 +52,7 @@ formed-requires-5 : tie.Need-formed-requires-5
 formed-requires-5 c κs = search needs
 
 returns-5 : tie.Need-returns-5
-unfolding laterOps
+unfolding ops
 returns-5 c = search by-op depth 12
 
 all-zero-requires-6 : tie.Need-all-zero-requires-6
@@ -62,7 +62,7 @@ formed-requires-6 : tie.Need-formed-requires-6
 formed-requires-6 c κs = search needs
 
 returns-6 : tie.Need-returns-6
-unfolding laterOps
+unfolding ops
 returns-6 c = search by-op depth 12
 
 all-zero-requires-7 : tie.Need-all-zero-requires-7
@@ -72,7 +72,7 @@ formed-requires-7 : tie.Need-formed-requires-7
 formed-requires-7 c κs = search needs
 
 returns-7 : tie.Need-returns-7
-unfolding laterOps
+unfolding ops
 returns-7 c = search by-op depth 12
 
 all-zero-requires-8 : tie.Need-all-zero-requires-8
@@ -82,7 +82,7 @@ formed-requires-8 : tie.Need-formed-requires-8
 formed-requires-8 c κs = search needs
 
 returns-8 : tie.Need-returns-8
-unfolding laterOps
+unfolding ops
 returns-8 c = search by-op depth 12
 
 all-zero-requires-9 : tie.Need-all-zero-requires-9
@@ -92,15 +92,18 @@ formed-requires-9 : tie.Need-formed-requires-9
 formed-requires-9 c κs = search needs
 
 returns-9 : tie.Need-returns-9
-unfolding laterOps
+unfolding ops
 returns-9 c = search by-op depth 12
 
+read-later-requires : tie.Need-read-later-requires
+read-later-requires c κs = search needs
+
 returns-10 : tie.Need-returns-10
-unfolding laterOps
+unfolding ops
 returns-10 c = search by-op depth 12
 
-pub read-later-spec : {M : Type 1} → statement M
-read-later-spec =
+pub read-op-spec : {M : Type 1} → statement M
+read-op-spec =
     tie.close
     (tie.spec
     all-zero-requires
@@ -130,4 +133,5 @@ read-later-spec =
     all-zero-requires-9
     formed-requires-9
     returns-9
+    read-later-requires
     returns-10)

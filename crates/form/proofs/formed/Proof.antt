@@ -1,7 +1,7 @@
 -- By the test: the step is formed where it holds.
-use Rattle.rules.proofs.Form.{is-formed, not-formed}
-use Rattle.rules.proofs.formed.Statement.{statement}
-use Rattle.rules.proofs.formed.Tie as tie
+use Rattle.form.proofs.Ops.{is-formed, not-formed}
+use Rattle.form.proofs.formed.Statement.{statement}
+use Rattle.form.proofs.formed.Tie as tie
 
 returns : tie.Need-returns
 returns c = is-formed _ _ (c .if1 .taken)
