@@ -21,7 +21,7 @@ use Rattle.rules.specs.Bag.{isIn, isHash, entryAt, noEntry, capacity, isFull}
 use Rattle.rules.specs.State.{State}
 use Rattle.rules.specs.Rules.{rule, answer, next, full}
 use Rattle.rules.specs.Valid.{Peer}
-use Rattle.edges.specs.Exact.{AllPosted, NeedsUp, hand, sign, take, share, close, fetch, fetch-other, hash, hear, back, Counts, signers, sharers, hearers, backed, Enters, own-hash, own-backing, board, false-hash, false-backing, ExactEdges}
+use Rattle.edges.specs.Exact.{AllPosted, NeedsUp, hand, sign, take, share, close, fetch, fetch-other, hash, hear, back, Counts, signers, sharers, heard-signers, backed, Enters, own-hash, own-backing, board, false-hash, false-backing, ExactEdges}
 use Rattle.edges.proofs.Stored.{stored, closes, backs}
 use Rattle.edges.proofs.Keys.{shares-unseen}
 use Rattle.edges.proofs.Left.{left}
@@ -88,14 +88,14 @@ module _ (T : Table) (s : State) where
   unfolding answer rule
   short _ _ (signers j x a b c) f = search row depth 8
   short _ _ (sharers p x a) f = search row depth 8
-  short _ _ (hearers j a b) f = search row depth 8
+  short _ _ (heard-signers j a b) f = search row depth 8
   short _ _ (backed e a) f = search row depth 8
 
   enough : (st : Step) (S : ℕ → Bool) → Counts T s st S → T .t ≤ weigh T S → answer T s st ≡ 12 → ⊥
   unfolding answer rule
   enough _ _ (signers j x a b c) f e = never 12 (rule T s (Share j x) .refusals) (λ z. omega arith) (search row) e
   enough _ _ (sharers p x a) f e = never 12 (rule T s (Receipt p x) .refusals) (λ z. omega arith) (search row) e
-  enough _ _ (hearers j a b) f e = never 12 (rule T s (Back j) .refusals) (λ z. omega arith) (search row) e
+  enough _ _ (heard-signers j a b) f e = never 12 (rule T s (Back j) .refusals) (λ z. omega arith) (search row) e
   enough _ _ (backed n a) f e = never 12 (rule T s (Publish n) .refusals) (λ z. omega arith) (search row) e
 
   -- an item of a board whose items are all posted

@@ -45,7 +45,7 @@ backersAt s e = backers (s .bag) (periodOf (entryAt (s .bag) e)) (boardOf (entry
 pub data Counts (T : Table) (s : State) : Step → (ℕ → Bool) → Type 0 where
   signers : (j x : ℕ) → Able T s j → x < T .items → s .current j < T .periods → Counts T s (Share j x) (s .db j (s .current j) x)
   sharers : (p x : ℕ) → Cell T p x → Counts T s (Receipt p x) (λ k. s .shared k p x)
-  hearers : (j : ℕ) → Able T s j → s .toBack j < s .current j → Counts T s (Back j) (heardOwn T s j)
+  heard-signers : (j : ℕ) → Able T s j → s .toBack j < s .current j → Counts T s (Back j) (heardOwn T s j)
   backed : (e : ℕ) → isBacking (entryAt (s .bag) e) ≡ true → Counts T s (Publish e) (backersAt s e)
 
 -- every item of a board is posted
