@@ -1,4 +1,5 @@
 pub mod Table
+pub mod Every
 pub mod Premise
 pub mod Worked
 pub mod Tests

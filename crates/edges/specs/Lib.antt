@@ -1,5 +1,6 @@
 pub mod Tables
 pub mod Marked
+pub mod Every
 pub mod Cases
 pub mod Worked
 pub mod Premise
