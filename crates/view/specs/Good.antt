@@ -1,4 +1,4 @@
--- Good contents: what row 14 asks, in the words of the contents.
+-- Good contents: what row 14 asks of what the bytes say. It is that the state of the rules is valid, and what only bytes can break.
 use Prim.Native.Nat.{ℕ, _<_}
 use mathlib.Core.Bool.{true}
 use mathlib.Core.Path.{_≡_}
