@@ -13,7 +13,7 @@ use Rattle.rules.specs.declared.Signers.{Signers}
 use Rattle.state.specs.Layout.{items}
 use Rattle.state.specs.Contents.{Contents}
 use Rattle.sets.specs.Sets.{signersOf}
-use Rattle.database.specs.Database.{rowOf, reaches, ownBoard}
+use Rattle.database.specs.Database.{rowOf, reaches, peerBoard}
 use Rattle.state.proofs.Tab.{getD-tab}
 use Rattle.sets.proofs.Words.{signers-counted}
 
@@ -40,6 +40,6 @@ board-more c j p t m i b x sets y row most low so h e =
     ∙ ap₂ (λ (a : ℕ) (z : Bool). a + digit z * 2 ^ i) so (row-reaches c j p t i sets y row (omega arith) h)
     ∙ sym (pack-more i (reaches c j p t))
 
-pub board-end : (c : Contents) (j p m t i b : ℕ) → i ≤ m → m ≤ i → b ≡ pack i (reaches c j p t) → b ≡ ownBoard c j p m t
-unfolding ownBoard
+pub board-end : (c : Contents) (j p m t i b : ℕ) → i ≤ m → m ≤ i → b ≡ pack i (reaches c j p t) → b ≡ peerBoard c j p m t
+unfolding peerBoard
 board-end c j p m t i b l k e = e ∙ ap (λ (n : ℕ). pack n (reaches c j p t)) (omega arith)

@@ -33,5 +33,5 @@ unfoldable pub reaches : Contents → ℕ → ℕ → ℕ → ℕ → Bool
 reaches c j p t i = leb t (signerCount c j p i)
 
 -- peer j's board of period p: of the first m items those with at least t signers, as a number
-unfoldable pub ownBoard : Contents → ℕ → ℕ → ℕ → ℕ → ℕ
-ownBoard c j p m t = pack m (reaches c j p t)
+unfoldable pub peerBoard : Contents → ℕ → ℕ → ℕ → ℕ → ℕ
+peerBoard c j p m t = pack m (reaches c j p t)

@@ -9,7 +9,7 @@ ghost use Rattle.state.specs.Layout.{items};
 ghost use Rattle.state.specs.Facts.{Row};
 ghost use Rattle.state.specs.Contents.{contents, Canon, Holds, adding};
 ghost use Rattle.sets.specs.Sets.{knownTo};
-ghost use Rattle.database.specs.Database.{rowOf, databaseOf, onRow, fetched, ownBoard};
+ghost use Rattle.database.specs.Database.{rowOf, databaseOf, onRow, fetched, peerBoard};
 use rules::Signers;
 use sets::add_signers;
 use sets::signers_of;
@@ -82,7 +82,7 @@ fn with_item(b: u64, i: u8, yes: bool) -> u64
 // Peer j's board of period p: of the first m items those with at least t signers.
 pub fn board_of(s: &[u8], j: u8, p: u8, m: u8, t: u8) -> u64
     requires { ⌜ Canon (now s) × (m ≤ items) ⌝ }
-    ensures { λ r. ⌜ r ≡ ownBoard (contents (now (s .entry))) j p m t ⌝ }
+    ensures { λ r. ⌜ r ≡ peerBoard (contents (now (s .entry))) j p m t ⌝ }
 {
     let sets = row(s, j, p);
     let mut b: u64 = 0;

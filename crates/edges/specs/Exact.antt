@@ -9,7 +9,7 @@ use Rattle.rules.specs.declared.Entry.the-variants.{Hash, Backing}
 use Rattle.rules.specs.declared.Step.{Step}
 use Rattle.rules.specs.declared.Step.the-variants.{Hand, Sign, Take, Share, Receipt, Close, Fetch, SendHash, Hear, Back, Publish, FalseShare, FalseHash, FalseBacking}
 use Rattle.rules.specs.Table.{Table, weigh}
-use Rattle.rules.specs.Bag.{isIn, isHash, isBacking, entryAt, periodOf, boardOf, boardNamed, capacity}
+use Rattle.rules.specs.Bag.{isIn, isHash, isBacking, entryAt, periodOf, boardOf, boardNamed}
 use Rattle.rules.specs.State.{State, with-signed, with-shared, with-db, with-heard}
 use Rattle.rules.specs.Rules.{answer, next, boardBy, backers}
 use Rattle.rules.specs.Repeat.{There}
@@ -91,10 +91,10 @@ pub record ExactEdges (T : Table) (s : State) : Type 0 where
   pub back-others : (j : ℕ) (heard : ℕ → ℕ → ℕ → ℕ → Bool) → ((k : ℕ) → heard j k (s .toBack j) (ownBoard T s j) ≡ heardOwn T s j k)
       → answer T (with-heard s heard) (Back j) ≡ answer T s (Back j)
   -- 13: exactly where the entry is not there and 256 are; an entry that is there, or room for it: 0
-  pub full-new : (st : Step) (a : Entry) → Enters T s st a → isIn a (s .bag) ≡ false → capacity ≤ length (s .bag) → answer T s st ≡ 13
+  pub full-new : (st : Step) (a : Entry) → Enters T s st a → isIn a (s .bag) ≡ false → 256 ≤ length (s .bag) → answer T s st ≡ 13
   pub full-there : (st : Step) (a : Entry) → Enters T s st a → isIn a (s .bag) ≡ true → answer T s st ≡ 0
-  pub full-room : (st : Step) (a : Entry) → Enters T s st a → length (s .bag) < capacity → answer T s st ≡ 0
-  pub full-only : (st : Step) → answer T s st ≡ 13 → capacity ≤ length (s .bag)
+  pub full-room : (st : Step) (a : Entry) → Enters T s st a → length (s .bag) < 256 → answer T s st ≡ 0
+  pub full-only : (st : Step) → answer T s st ≡ 13 → 256 ≤ length (s .bag)
   -- A receipt share never counts as a signature: a take of what was not signed answers 10, and no step but receipt looks at shares.
   pub take-unsigned : (j k p x : ℕ) → Able T s j → Peer T k → Cell T p x → p ≤ s .current j → s .signed k p x ≡ false → answer T s (Take j k p x) ≡ 10
   pub shares-unseen : (st : Step) (shared : ℕ → ℕ → ℕ → Bool) → ((p x : ℕ) → st ≡ Receipt p x → ⊥)

@@ -29,27 +29,12 @@ pub fn judge_false_signature(s: &[u8], h: Head, j: u8, p: u8, x: u8) -> u8
     0
 }
 
-// 14: the outsider makes dishonest peer j's receipt share on item x in period p.
+// 14: the outsider makes dishonest peer j's receipt share on item x in period p. It is refused as a signature is.
 pub fn judge_false_share(s: &[u8], h: Head, j: u8, p: u8, x: u8) -> u8
     requires { ⌜ Ready h (now s) ⌝ }
     ensures { λ r. ⌜ r ≡ answerOn h noClash (now (s .entry)) (FalseShare j p x) ⌝ }
 {
-    if guard::names::no_peer(h, j) {
-        return 6;
-    }
-    if guard::names::no_period(h, p) {
-        return 6;
-    }
-    if guard::names::no_item(h, x) {
-        return 6;
-    }
-    if guard::names::is_honest(h, j) {
-        return 7;
-    }
-    if guard::items::not_posted(s, x) {
-        return 10;
-    }
-    0
+    judge_false_signature(s, h, j, p, x)
 }
 
 // 15: the outsider makes dishonest peer j's hash of a board in period p.
@@ -118,16 +103,10 @@ pub fn judge_down(s: &[u8], h: Head, j: u8) -> u8
     0
 }
 
-// 18, up: peer j comes up.
+// 18, up: peer j comes up. It is refused as down is.
 pub fn judge_up(s: &[u8], h: Head, j: u8) -> u8
     requires { ⌜ Ready h (now s) ⌝ }
     ensures { λ r. ⌜ r ≡ answerOn h noClash (now (s .entry)) (Up j) ⌝ }
 {
-    if guard::names::no_peer(h, j) {
-        return 6;
-    }
-    if guard::names::not_honest(h, j) {
-        return 7;
-    }
-    0
+    judge_down(s, h, j)
 }

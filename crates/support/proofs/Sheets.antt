@@ -20,7 +20,7 @@ use Rattle.rules.specs.Rules.{boardFrom}
 use Rattle.state.specs.declared.Fact.the-variants.{Posted, Known}
 use Rattle.state.specs.Contents.{Contents, contents}
 use Rattle.sets.specs.Sets.{signerCount, postedOf}
-use Rattle.database.specs.Database.{reaches, ownBoard}
+use Rattle.database.specs.Database.{reaches, peerBoard}
 use Rattle.view.specs.declared.Head.{Head}
 use Rattle.view.specs.View.{noClash, tableOf, stateOf}
 use Rattle.view.specs.Ready.{Ready}
@@ -28,8 +28,8 @@ use Rattle.guard.proofs.Counts.{signers-weigh}
 
 module _ (h : Head) (s : List ℕ) (R : Ready h s) where
   -- the board that a peer finds is the board of the rules
-  pub board-found : (j p : ℕ) {r : ℕ} → r ≡ ownBoard (contents s) j p (h .items) (h .t) → r ≡ boardFrom (tableOf h noClash) (stateOf (contents s) .db j p)
-  unfolding ownBoard boardFrom reaches
+  pub board-found : (j p : ℕ) {r : ℕ} → r ≡ peerBoard (contents s) j p (h .items) (h .t) → r ≡ boardFrom (tableOf h noClash) (stateOf (contents s) .db j p)
+  unfolding peerBoard boardFrom reaches
   board-found j p e = e ∙ pack-ext (h .items) (λ x. leb (h .t) (signerCount (contents s) j p x)) (λ x. leb (h .t) (weight ones (h .n) (λ k. contents s .has (Known j p x k))))
       (λ x l. ap (λ (w : ℕ). leb (h .t) w) (signers-weigh h s R j p x))
 

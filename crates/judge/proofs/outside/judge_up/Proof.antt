@@ -1,33 +1,15 @@
--- The first test that holds gives the answer, in the rules' order: by `row`.
+-- The rules refuse up exactly as down.
 use Rattle.rules.specs.Rules.{rule, answer}
-use Rattle.judge.proofs.Row.{row, asked}
+use Rattle.judge.proofs.Row.{asked}
 use Rattle.judge.proofs.outside.judge_up.Statement.{statement}
 use Rattle.judge.proofs.outside.judge_up.Tie as tie
 
-no-peer-requires : tie.Need-no-peer-requires
-no-peer-requires c κs = search asked
+judge-down-requires : tie.Need-judge-down-requires
+judge-down-requires c κs = search asked
 
 returns : tie.Need-returns
 unfolding answer rule
-returns c = search row depth 6
-
-not-honest-requires : tie.Need-not-honest-requires
-not-honest-requires c κs = search asked
-
-returns-2 : tie.Need-returns-2
-unfolding answer rule
-returns-2 c = search row depth 6
-
-returns-3 : tie.Need-returns-3
-unfolding answer rule
-returns-3 c = search row depth 6
+returns c = c .judge-down .ensures
 
 pub judge-up-spec : {M : Type 1} → statement M
-judge-up-spec =
-    tie.close
-    (tie.spec
-    no-peer-requires
-    returns
-    not-honest-requires
-    returns-2
-    returns-3)
+judge-up-spec = tie.close (tie.spec judge-down-requires returns)
