@@ -16,15 +16,23 @@ fn value_of(s: &[u8], n: Number) -> u8
     s[slot_of(n)]
 }
 
+// A number of peer j; 0 where there is no room for the peer.
+fn number_of(s: &[u8], j: u8, n: Number) -> u8
+    requires { ⌜ Canon (now s) × (peerOf n ≡ j) ⌝ }
+    ensures { λ r. ⌜ r ≡ contents (now (s .entry)) .number n ⌝ }
+{
+    if is_peer(j) {
+        return value_of(s, n);
+    }
+    0
+}
+
 // Peer j's open period.
 pub fn current_of(s: &[u8], j: u8) -> u8
     requires { ⌜ Canon (now s) ⌝ }
     ensures { λ r. ⌜ r ≡ contents (now (s .entry)) .number (CurrentOf j) ⌝ }
 {
-    if is_peer(j) {
-        return value_of(s, Number::CurrentOf(j));
-    }
-    0
+    number_of(s, j, Number::CurrentOf(j))
 }
 
 // The next period that peer j is to back.
@@ -32,10 +40,7 @@ pub fn to_back_of(s: &[u8], j: u8) -> u8
     requires { ⌜ Canon (now s) ⌝ }
     ensures { λ r. ⌜ r ≡ contents (now (s .entry)) .number (ToBackOf j) ⌝ }
 {
-    if is_peer(j) {
-        return value_of(s, Number::ToBackOf(j));
-    }
-    0
+    number_of(s, j, Number::ToBackOf(j))
 }
 
 // 1 where peer j is down, 0 where it is up.
@@ -43,10 +48,7 @@ pub fn down_of(s: &[u8], j: u8) -> u8
     requires { ⌜ Canon (now s) ⌝ }
     ensures { λ r. ⌜ r ≡ contents (now (s .entry)) .number (DownOf j) ⌝ }
 {
-    if is_peer(j) {
-        return value_of(s, Number::DownOf(j));
-    }
-    0
+    number_of(s, j, Number::DownOf(j))
 }
 
 // Gives the number the value v.
