@@ -15,7 +15,7 @@ use Rattle.rules.specs.declared.Step.the-variants.{Post, Hand, Sign, Take, Shar
 use Rattle.rules.specs.Table.{clashing}
 use Rattle.rules.specs.Rules.{rule, answer, boardFrom}
 use Rattle.state.specs.Contents.{contents}
-use Rattle.view.specs.declared.Head.{Head}
+use Rattle.header.specs.declared.Head.{Head}
 use Rattle.view.specs.View.{noClash, inRow, tableOf, stateOf, answerOn}
 use Rattle.view.specs.Effect.{effectOn}
 use Rattle.view.specs.Ready.{Ready}

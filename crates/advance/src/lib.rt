@@ -7,11 +7,11 @@ ghost use Rattle.clash.specs.Clash.{clashIn, RowsOf};
 ghost use Rattle.view.specs.Ready.{Ready};
 ghost use Rattle.steps.specs.Stepped.{Stepped};
 use clash::rows::clash_row;
+use header::Head;
 use rules::Step;
 use steps::ballots;
 use steps::closing;
 use steps::outside;
-use view::Head;
 
 // The step, whichever of the eighteen it is.
 pub fn advance(table: &[u8], s: &mut [u8], h: Head, rows: &[u64], st: Step) -> u8

@@ -4,7 +4,7 @@ use mathlib.Core.Bool.{true}
 use mathlib.Core.List.{List}
 use mathlib.Core.Path.{_≡_}
 use lib.ListN.{length}
-use Rattle.header.specs.Header.{headerSize, peersOf, thresholdOf, periodsOf, itemsOf, isHonest}
+use Rattle.header.specs.Header.{headerSize, peersOf, thresholdOf, periodsOf, itemsOf, headOf, isHonest}
 use Rattle.pairs.specs.Pairs.{offsetOf, sizeOf}
 use Rattle.ballot.specs.Table.{itemText, itemOk}
 
@@ -16,7 +16,7 @@ pub record Sound (s : List ℕ) : Type 0 where
   pub threshold-rule : 2 * peersOf s < 3 * thresholdOf s
   pub threshold-most : thresholdOf s ≤ peersOf s
   -- the honest peers are among the n
-  pub honest-peer : (k : ℕ) → isHonest s k ≡ true → (1 ≤ k) × (k ≤ peersOf s)
+  pub honest-peer : (k : ℕ) → isHonest (headOf s) k ≡ true → (1 ≤ k) × (k ≤ peersOf s)
   -- P is 1 to 8
   pub periods-least : 1 ≤ periodsOf s
   pub periods-most : periodsOf s ≤ 8

@@ -3,7 +3,7 @@ use mathlib.Core.Bool.{true, false}
 use mathlib.Core.List.{[], _∷_, _++_}
 use mathlib.Core.Path.{_≡_}
 use lib.ListN.{replicate}
-use Rattle.header.specs.Header.{honestCount}
+use Rattle.header.specs.Header.{headOf, honestCount}
 use Rattle.ballot.specs.Table.{refusal}
 use Rattle.clash.specs.Clash.{clash, clashMask}
 use Rattle.edges.specs.Tables.{empty, single, item, vote, audit, cancellation, twoFives, three, caseR}
@@ -59,4 +59,4 @@ pub record TableCases : Type 0 where
   pub third-with-none : clashMask three 2 ≡ 0
   -- case R
   pub case-R-taken : refusal caseR ≡ 0
-  pub case-R-honest : honestCount caseR ≡ 1
+  pub case-R-honest : honestCount (headOf caseR) ≡ 1

@@ -6,7 +6,7 @@ use mathlib.Core.List.{List, []}
 use mathlib.Core.Path.{_≡_, sym, ap, subst, _∙_}
 use lib.ListN.{length, replicate}
 use borrow.Author.Tests.{eq-eqb, ne-eqb}
-use Rattle.header.specs.Header.{peersOf, thresholdOf, honestOf, periodsOf, itemsOf}
+use Rattle.header.specs.Header.{headOf}
 use Rattle.clash.specs.Clash.{clashIn}
 use Rattle.ballot.specs.Table.{refusal}
 use Rattle.ballot.proofs.Sound.{sound}
@@ -17,17 +17,12 @@ use Rattle.rules.specs.declared.Call.the-variants.{Formed, Malformed}
 use Rattle.rules.specs.Form.{read}
 use Rattle.rules.specs.Rules.{reply}
 use Rattle.state.specs.Layout.{size}
-use Rattle.view.specs.declared.Head.{Head}
+use Rattle.header.specs.declared.Head.{Head}
 use Rattle.view.specs.StateOk.{stateOk}
 use Rattle.view.specs.Ready.{Room, Ready}
 use Rattle.valid.proofs.Ready.{ready-of-ok, ok-of-ready}
 use Rattle.steps.specs.Stepped.{Stepped}
-use Rattle.engine.specs.Engine.{headOf, Prepared, leaveOn, stepAnswer, stepBytes, freshAnswer, freshBytes, freshState}
-
--- a header, field by field
-pub all-read : (table : List ℕ) (n t honest periods items : ℕ) → n ≡ peersOf table → t ≡ thresholdOf table → honest ≡ honestOf table → periods ≡ periodsOf table → items ≡ itemsOf table
-    → _≡_ {A = Head} (record { n = n; t = t; honest = honest; periods = periods; items = items }) (headOf table)
-all-read table n t honest periods items a b c d e = λ i. record { n = a i; t = b i; honest = c i; periods = d i; items = e i }
+use Rattle.engine.specs.Engine.{Prepared, leaveOn, stepAnswer, stepBytes, freshAnswer, freshBytes, freshState}
 
 module _ (table : List ℕ) {r : ℕ} (checked : r ≡ refusal table) where
   -- a table that is refused

@@ -22,7 +22,7 @@ use Rattle.state.specs.Entries.{EntryFits}
 use Rattle.state.specs.Contents.{Contents, Fits}
 use Rattle.rules.proofs.Bag.{at-in}
 use Rattle.state.proofs.Ranges.{within-range, within-peer}
-use Rattle.view.specs.declared.Head.{Head}
+use Rattle.header.specs.declared.Head.{Head}
 use Rattle.view.specs.View.{tableOf, stateOf}
 use Rattle.view.specs.Good.{Good}
 use Rattle.view.proofs.Meets.{hash-below}

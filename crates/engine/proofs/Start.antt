@@ -12,7 +12,7 @@ use Rattle.rules.proofs.Valid.{fresh-valid}
 use Rattle.state.specs.Layout.{size}
 use Rattle.state.specs.Contents.{contents, empty, Holds}
 use Rattle.state.proofs.Fresh.{fresh-holds}
-use Rattle.view.specs.declared.Head.{Head}
+use Rattle.header.specs.declared.Head.{Head}
 use Rattle.view.specs.View.{told, tableOf, stateOf}
 use Rattle.view.specs.Good.{Good}
 use Rattle.view.specs.Ready.{Room, Ready}

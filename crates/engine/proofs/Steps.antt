@@ -19,7 +19,7 @@ use Rattle.rules.proofs.Answered.{answered}
 use Rattle.state.specs.Contents.{contents}
 use Rattle.state.specs.Encode.{encode}
 use Rattle.state.proofs.Decode.{encode-holds}
-use Rattle.view.specs.declared.Head.{Head}
+use Rattle.header.specs.declared.Head.{Head}
 use Rattle.view.specs.View.{tableOf, stateOf}
 use Rattle.view.specs.Effect.{effectOn}
 use Rattle.view.specs.Good.{Good}
@@ -28,7 +28,8 @@ use Rattle.view.proofs.Keeps.{keeps-good}
 use Rattle.view.proofs.Whatever.{good-whatever}
 use Rattle.view.specs.Ready.{Ready}
 use Rattle.valid.proofs.Ready.{ok-of-ready}
-use Rattle.engine.specs.Engine.{headOf, rulesTable, leaveOn, stepAnswer, stepBytes}
+use Rattle.header.specs.Header.{headOf}
+use Rattle.engine.specs.Engine.{rulesTable, leaveOn, stepAnswer, stepBytes}
 use Rattle.engine.proofs.Fits.{good-fits}
 
 -- the bytes t are ready, and hold what the rules leave of s after the call

@@ -5,7 +5,7 @@ use mathlib.Core.List.{List}
 use mathlib.Core.Path.{_≡_}
 use lib.Dec.{eqb}
 use lib.ListN.{length, replicate}
-use Rattle.header.specs.Header.{peersOf, thresholdOf, honestOf, periodsOf, itemsOf}
+use Rattle.header.specs.Header.{headOf}
 use Rattle.clash.specs.Clash.{clashIn, RowsOf}
 use Rattle.ballot.specs.Table.{refusal}
 use Rattle.rules.specs.declared.Call.{Call}
@@ -16,14 +16,10 @@ use Rattle.rules.specs.Rules.{reply}
 use Rattle.state.specs.Layout.{size}
 use Rattle.state.specs.Contents.{Contents, contents}
 use Rattle.state.specs.Encode.{encode}
-use Rattle.view.specs.declared.Head.{Head}
+use Rattle.header.specs.declared.Head.{Head}
 use Rattle.view.specs.View.{tableOf, stateOf}
 use Rattle.view.specs.Effect.{effectOn}
 use Rattle.view.specs.StateOk.{stateOk}
-
--- the header of a table
-abbrev pub headOf : List ℕ → Head
-headOf table = record { n = peersOf table; t = thresholdOf table; honest = honestOf table; periods = periodsOf table; items = itemsOf table }
 
 -- a table's bytes as the table of the rules
 abbrev pub rulesTable : List ℕ → Table

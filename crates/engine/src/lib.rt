@@ -3,24 +3,11 @@
 ghost use mathlib.Core.Path.{_≡_};
 ghost use lib.ListN.{length, replicate};
 ghost use Rattle.view.specs.Ready.{Ready};
-ghost use Rattle.engine.specs.Engine.{headOf, Prepared, stepAnswer, stepBytes, freshAnswer, freshBytes};
+ghost use Rattle.engine.specs.Engine.{Prepared, stepAnswer, stepBytes, freshAnswer, freshBytes};
 use ballot::check_table;
+use header::Head;
 use rules::Call;
 use state::layout::SIZE;
-use view::Head;
-
-// The header of a table, read once.
-pub fn head_of(table: &[u8]) -> Head
-    ensures { λ r. ⌜ r ≡ headOf (now (table .entry)) ⌝ }
-{
-    Head {
-        n: header::peers(table),
-        t: header::threshold(table),
-        honest: header::honest(table),
-        periods: header::periods(table),
-        items: header::items(table),
-    }
-}
 
 // Writes 0 in every byte.
 pub fn clear(s: &mut [u8])
@@ -67,7 +54,7 @@ pub fn step(table: &[u8], s: &mut [u8], step: &[u8]) -> u8
     if refusal != 0 {
         return refusal;
     }
-    let h = head_of(table);
+    let h = header::head_of(table);
     if !valid::state_ok(s, h) {
         return 14;
     }

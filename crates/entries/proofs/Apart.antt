@@ -25,7 +25,7 @@ use Rattle.state.specs.Tab.{tab}
 use Rattle.state.specs.Contents.{count, entryAt, contents}
 use Rattle.state.proofs.Tab.{tab-more}
 use Rattle.state.proofs.Entries.{entry-of, period-of, board-of}
-use Rattle.view.specs.declared.Head.{Head}
+use Rattle.header.specs.declared.Head.{Head}
 use Rattle.view.specs.StateOk.{entryAtOk}
 use Rattle.entries.specs.Numbers.{marks, markPrime, markStep, signers, markBytes, markOf, kindAt, signerAt, periodAt, boardAt, markAt, Seen, sameAt, newAt}
 

@@ -24,7 +24,7 @@ use Rattle.state.specs.Tab.{tab}
 use Rattle.state.specs.Contents.{count, entryAt, contents, Canon}
 use Rattle.state.proofs.Tab.{length-tab, getD-tab}
 use Rattle.state.proofs.Encode.{bag-length}
-use Rattle.view.specs.declared.Head.{Head}
+use Rattle.header.specs.declared.Head.{Head}
 use Rattle.view.specs.View.{tableOf}
 use Rattle.view.specs.StateOk.{entryOk, entryAtOk, bagOk}
 

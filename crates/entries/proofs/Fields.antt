@@ -14,7 +14,7 @@ use Rattle.state.specs.Layout.{hashKind, backingKind, boardKind}
 use Rattle.rules.specs.Bag.{kindOf, signerOf}
 use Rattle.state.specs.Entries.{entryOf}
 use Rattle.state.specs.Contents.{entryAt}
-use Rattle.view.specs.declared.Head.{Head}
+use Rattle.header.specs.declared.Head.{Head}
 use Rattle.view.specs.StateOk.{entryOk, entryAtOk}
 use Rattle.entries.specs.Numbers.{signerOk, fourOk, kindAt, signerAt, periodAt, boardAt}
 

@@ -11,7 +11,7 @@ use Rattle.base.proofs.Chain.{stop, pass}
 use Rattle.bits.specs.Row.{zeros}
 use Rattle.state.specs.Layout.{entries, entryStart, size}
 use Rattle.state.specs.Contents.{count}
-use Rattle.view.specs.declared.Head.{Head}
+use Rattle.header.specs.declared.Head.{Head}
 use Rattle.view.specs.StateOk.{entryAtOk, bagOk}
 use Rattle.entries.specs.Numbers.{newAt}
 use Rattle.entries.proofs.Apart.{all-different}

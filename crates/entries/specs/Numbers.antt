@@ -11,7 +11,7 @@ use Rattle.base.specs.Marks.{Marked}
 use Rattle.bits.specs.Row.{bitAt}
 use Rattle.bits.specs.Number.{num}
 use Rattle.state.specs.Layout.{periods, itemBytes, entryStart, signerIn, periodIn, boardIn, hashKind, backingKind, boardKind}
-use Rattle.view.specs.declared.Head.{Head}
+use Rattle.header.specs.declared.Head.{Head}
 
 -- a board has no signer; a hash and a backing have a peer of the table; there is no other kind
 unfoldable pub signerOk : ℕ → ℕ → ℕ → Bool

@@ -9,6 +9,7 @@ ghost use Rattle.state.specs.Contents.{count};
 ghost use Rattle.view.specs.StateOk.{entryAtOk, bagOk};
 ghost use Rattle.entries.specs.Numbers.{signerOk, fourOk};
 use crate::distinct::all_new;
+use header::Head;
 use state::layout::BACKING;
 use state::layout::BAG;
 use state::layout::BOARD;
@@ -21,7 +22,6 @@ use state::layout::ITEM_BYTES;
 use state::layout::PERIOD_IN;
 use state::layout::SIGNER_IN;
 use state::layout::SIZE;
-use view::Head;
 
 mod distinct;
 

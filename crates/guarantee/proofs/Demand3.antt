@@ -2,7 +2,7 @@
 use Prim.Native.Nat.{ℕ, _≤_}
 use mathlib.Core.List.{List, [], _∷_}
 use mathlib.Core.Path.{_≡_, refl, sym, ap, ap₂, subst, fun-ext, _∙_}
-use Rattle.header.specs.Header.{thresholdOf, isHonest, honestCount}
+use Rattle.header.specs.Header.{headOf, thresholdOf, honestCount}
 use Rattle.ballot.specs.Table.{refusal}
 use Rattle.clash.proofs.Relation.{clash-in-sym, clash-in-self}
 use Rattle.ballot.proofs.Sound.{sound}
@@ -17,7 +17,7 @@ use Rattle.rules.proofs.Runs.{ruled}
 use Rattle.state.specs.Contents.{contents}
 use Rattle.view.specs.View.{stateOf}
 use Rattle.view.specs.Ready.{Ready}
-use Rattle.engine.specs.Engine.{headOf, rulesTable, stepAnswer, stepBytes, freshState}
+use Rattle.engine.specs.Engine.{rulesTable, stepAnswer, stepBytes, freshState}
 use Rattle.engine.proofs.Calls.{room-of}
 use Rattle.engine.proofs.Start.{fresh-state, fresh-ready}
 use Rattle.engine.proofs.Steps.{step-answers, step-leaves}
@@ -42,8 +42,7 @@ module _ (table : List ℕ) (fit : refusal table ≡ 0) where
   unfolding afterCalls run
   as-ruled calls = follows calls freshState [] (fresh-ready (headOf table) (room-of table (sym fit) refl)) ∙ ap (λ (s : State). ruled T s [] calls) fresh-state
 
-  premise : thresholdOf table ≤ honestCount table → Premise T
-  unfolding isHonest
+  premise : thresholdOf table ≤ honestCount (headOf table) → Premise T
   premise enough = counted T refl (sound table fit .threshold-rule) enough (clash-in-sym table) (clash-in-self table)
 
 pub demand-3-on-bytes : (table : List ℕ) → HonestEnough table → AlwaysSafe table

@@ -2,7 +2,7 @@
 use Prim.Native.Nat.{ℕ, _≤_}
 use mathlib.Core.List.{List, []}
 use mathlib.Core.Path.{_≡_}
-use Rattle.header.specs.Header.{thresholdOf, honestCount}
+use Rattle.header.specs.Header.{headOf, thresholdOf, honestCount}
 use Rattle.ballot.specs.Table.{refusal}
 use Rattle.rules.specs.Run.{World, runFrom}
 use Rattle.rules.specs.Demand3.{Safe}
@@ -13,7 +13,7 @@ use Rattle.engine.specs.Engine.{rulesTable, stepAnswer, stepBytes, freshState}
 -- the table is taken, and at least t of its peers are honest
 pub record HonestEnough (table : List ℕ) : Type 0 where
   pub taken : refusal table ≡ 0
-  pub honest : thresholdOf table ≤ honestCount table
+  pub honest : thresholdOf table ≤ honestCount (headOf table)
 
 -- after a list of step calls, on one table and one state buffer, from the fresh state: what the buffer holds, and what the ideal board was fed
 unfoldable pub afterCalls : List ℕ → List (List ℕ) → World

@@ -13,7 +13,7 @@ use Rattle.state.specs.declared.Fact.the-variants.{Shared, Known}
 use Rattle.state.specs.Layout.{peers}
 use Rattle.state.specs.Contents.{contents}
 use Rattle.sets.specs.Sets.{signerCount, sharerCount}
-use Rattle.view.specs.declared.Head.{Head}
+use Rattle.header.specs.declared.Head.{Head}
 use Rattle.view.specs.View.{noClash}
 use Rattle.view.specs.Ready.{Ready}
 

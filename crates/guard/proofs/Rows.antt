@@ -22,7 +22,7 @@ use Rattle.state.specs.declared.Fact.the-variants.{Held}
 use Rattle.state.specs.Layout.{items}
 use Rattle.state.specs.Contents.{contents}
 use Rattle.sets.specs.Sets.{heldOf}
-use Rattle.view.specs.declared.Head.{Head}
+use Rattle.header.specs.declared.Head.{Head}
 use Rattle.view.specs.View.{noClash, inRow, tableOf, stateOf}
 use Rattle.view.specs.Ready.{Ready}
 use Rattle.guard.specs.Common.{inCommon, holdsOf}

@@ -4,10 +4,10 @@ ghost use lib.Dec.{eqb, ltb};
 ghost use Rattle.rules.specs.Rules.{noneOpen, notClosed};
 ghost use Rattle.state.specs.declared.Number.the-variants.{CurrentOf, ToBackOf, DownOf};
 ghost use Rattle.state.specs.Contents.{contents, Canon};
+use header::Head;
 use state::numbers::current_of;
 use state::numbers::down_of;
 use state::numbers::to_back_of;
-use view::Head;
 
 // Peer j is down.
 pub fn is_down(s: &[u8], j: u8) -> bool

@@ -7,10 +7,10 @@ ghost use Rattle.state.specs.declared.Number.the-variants.{CurrentOf};
 ghost use Rattle.state.specs.Contents.{contents};
 ghost use Rattle.view.specs.View.{noClash, tableOf};
 ghost use Rattle.view.specs.Ready.{Ready};
+use header::Head;
 use sets::sharer_count;
 use sets::signer_count;
 use state::numbers::current_of;
-use view::Head;
 
 fn wide(x: u8) -> u32
     ensures { λ r. ⌜ r ≡ x ⌝ }

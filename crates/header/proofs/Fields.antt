@@ -13,12 +13,19 @@ use Rattle.base.specs.Weight.{ones, all}
 use Rattle.base.proofs.Truth.{and-l}
 use Rattle.base.proofs.Bytes.{between-true}
 use Rattle.base.proofs.Weight.{weight-mono, count-all}
-use Rattle.header.specs.Header.{headerSize, peersOf, thresholdOf, honestOf, periodsOf, itemsOf}
+use Rattle.header.specs.declared.Head.{Head}
+use Rattle.header.specs.Header.{headOf, headerSize, peersOf, thresholdOf, honestOf, periodsOf, itemsOf}
 use Rattle.header.specs.Header.{isHonest, honestCount, leastThreshold, noneAbove, thresholdOk, fieldsOk, headerOk}
 
+-- a header, field by field
+pub all-read : (s : List ℕ) (n t honest periods items : ℕ)
+    → n ≡ peersOf s → t ≡ thresholdOf s → honest ≡ honestOf s → periods ≡ periodsOf s → items ≡ itemsOf s
+    → _≡_ {A = Head} (record { n = n; t = t; honest = honest; periods = periods; items = items }) (headOf s)
+all-read s n t honest periods items a b c d e = λ i. record { n = a i; t = b i; honest = c i; periods = d i; items = e i }
+
 -- at most all peers are honest
-pub honest-most : (s : List ℕ) → honestCount s ≤ peersOf s
-honest-most s = omega (arith, weight-mono ones (peersOf s) (isHonest s) all (λ k e. refl), count-all (peersOf s))
+pub honest-most : (h : Head) → honestCount h ≤ h .n
+honest-most h = omega (arith, weight-mono ones (h .n) (isHonest h) all (λ k e. refl), count-all (h .n))
 
 -- a set with no bit above n is below 2 ^ n
 pub none-above : (n set : ℕ) → noneAbove n set ≡ true → set < 2 ^ n

@@ -7,7 +7,7 @@ use borrow.Author.Tests.{leb-true}
 use Rattle.base.proofs.Truth.{and-l, and-r}
 use Rattle.base.proofs.Bytes.{between-true}
 use Rattle.base.proofs.Members.{member-among}
-use Rattle.header.specs.Header.{peersOf, thresholdOf, honestOf, periodsOf, itemsOf, isHonest}
+use Rattle.header.specs.Header.{headOf, peersOf, thresholdOf, honestOf, periodsOf, itemsOf, isHonest}
 use Rattle.header.specs.Header.{leastThreshold, thresholdOk, fieldsOk, headerOk}
 use Rattle.header.proofs.Fields.{none-above}
 
@@ -20,8 +20,8 @@ module _ (s : List ℕ) (ok : headerOk s ≡ true) where
   unfolding headerOk fieldsOk thresholdOk
   threshold-range = between-true (leastThreshold (peersOf s)) (thresholdOf s) (peersOf s) (search (and-l, and-r))
 
-  pub honest-range : (k : ℕ) → isHonest s k ≡ true → (1 ≤ k) × (k ≤ peersOf s)
-  unfolding headerOk fieldsOk isHonest
+  pub honest-range : (k : ℕ) → isHonest (headOf s) k ≡ true → (1 ≤ k) × (k ≤ peersOf s)
+  unfolding headerOk fieldsOk
   honest-range = member-among (peersOf s) (honestOf s) (none-above (peersOf s) (honestOf s) (search (and-l, and-r)))
 
   pub periods-range : (1 ≤ periodsOf s) × (periodsOf s ≤ 8)

@@ -1,4 +1,4 @@
--- The ballot table's header: its fields, and whether each is in range.
+-- The ballot table's header: its fields, the struct of them, and whether each is in range.
 use Prim.Native.Nat.{ℕ, _+_, _-_, _*_, _/_, _^_}
 use mathlib.Core.Bool.{Bool, _&&_}
 use mathlib.Core.List.{List, [], _∷_}
@@ -7,6 +7,7 @@ use lib.ListN.{length, getD}
 use Rattle.base.specs.Bytes.{byteAt, between}
 use Rattle.base.specs.Bits.{member}
 use Rattle.base.specs.Weight.{weight, ones}
+use Rattle.header.specs.declared.Head.{Head}
 
 -- the header's length in bytes, the same for every table
 abbrev pub headerSize : List ℕ → ℕ
@@ -36,13 +37,17 @@ periodsOf s = fieldOf s 4
 abbrev pub itemsOf : List ℕ → ℕ
 itemsOf s = fieldOf s 5
 
+-- the header of a table
+abbrev pub headOf : List ℕ → Head
+headOf s = record { n = peersOf s; t = thresholdOf s; honest = honestOf s; periods = periodsOf s; items = itemsOf s }
+
 -- peer k is honest
-unfoldable pub isHonest : List ℕ → ℕ → Bool
-isHonest s k = member (honestOf s) k
+abbrev pub isHonest : Head → ℕ → Bool
+isHonest h k = member (h .honest) k
 
 -- h, the number of honest peers
-abbrev pub honestCount : List ℕ → ℕ
-honestCount s = weight ones (peersOf s) (isHonest s)
+abbrev pub honestCount : Head → ℕ
+honestCount h = weight ones (h .n) (isHonest h)
 
 -- the least threshold for 1 to 16 peers
 unfoldable pub leastTable : List ℕ

@@ -1,10 +1,21 @@
-// The ballot table's header: its fields, and whether each is in range.
+// The ballot table's header: its fields, the struct of them that is read once, and whether each is in range.
 // It uses the crate base and no other.
 ghost use mathlib.Core.Path.{_≡_};
 ghost use Prim.Native.Nat.{_≤_};
 ghost use Rattle.header.specs.Header.{headerSize, fieldOf, peersOf, thresholdOf, honestOf, periodsOf, itemsOf};
-ghost use Rattle.header.specs.Header.{isHonest, honestCount, leastThreshold, noneAbove, thresholdOk, fieldsOk, headerOk};
+ghost use Rattle.header.specs.Header.{headOf, isHonest, honestCount};
+ghost use Rattle.header.specs.Header.{leastThreshold, noneAbove, thresholdOk, fieldsOk, headerOk};
 ghost use Rattle.base.specs.Bytes.{between};
+
+// What a step needs of a table: its header, read once.
+pub struct Head {
+    pub n: u8,
+    pub t: u8,
+    // bit k - 1 is peer k
+    pub honest: u16,
+    pub periods: u8,
+    pub items: u8,
+}
 
 // The header's length in bytes, the same for every table.
 pub fn header_size(table: &[u8]) -> u8
@@ -57,23 +68,36 @@ pub fn items(table: &[u8]) -> u8
     field(table, 5)
 }
 
-// Whether peer k is honest.
-pub fn is_honest(table: &[u8], k: u8) -> bool
-    ensures { λ r. ⌜ r ≡ isHonest (now (table .entry)) k ⌝ }
+// The header of a table, read once.
+pub fn head_of(table: &[u8]) -> Head
+    ensures { λ r. ⌜ r ≡ headOf (now (table .entry)) ⌝ }
 {
-    base::is_member(honest(table), k)
+    Head {
+        n: peers(table),
+        t: threshold(table),
+        honest: honest(table),
+        periods: periods(table),
+        items: items(table),
+    }
+}
+
+// Whether peer k is honest.
+pub fn is_honest(h: Head, k: u8) -> bool
+    ensures { λ r. ⌜ r ≡ isHonest h k ⌝ }
+{
+    base::is_member(h.honest, k)
 }
 
 // h, the number of honest peers.
-pub fn honest_count(table: &[u8]) -> u8
-    ensures { λ r. ⌜ r ≡ honestCount (now (table .entry)) ⌝ }
+pub fn honest_count(h: Head) -> u8
+    ensures { λ r. ⌜ r ≡ honestCount h ⌝ }
 {
-    let n = peers(table);
+    let n = h.n;
     let mut count: u8 = 0;
     let mut k: u8 = 0;
     while k < n {
         k += 1;
-        if is_honest(table, k) {
+        if is_honest(h, k) {
             count += 1;
         }
     }

@@ -11,7 +11,7 @@ use Rattle.rules.specs.Bag.{isFull}
 use Rattle.base.specs.Weight.{weight, ones}
 use Rattle.base.proofs.Refusals.{stop, pass, none-left}
 use Rattle.state.specs.Contents.{Canon}
-use Rattle.view.specs.declared.Head.{Head}
+use Rattle.header.specs.declared.Head.{Head}
 use Rattle.view.specs.Ready.{Ready}
 use borrow.Author.Needs.{needs}
 

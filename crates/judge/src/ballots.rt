@@ -3,7 +3,7 @@ ghost use mathlib.Core.Path.{_≡_};
 ghost use Rattle.rules.specs.declared.Step.the-variants.{Post, Hand, Sign, Take, Share, Receipt};
 ghost use Rattle.view.specs.View.{noClash, inRow, answerOn};
 ghost use Rattle.view.specs.Ready.{Ready};
-use view::Head;
+use header::Head;
 
 // 1, post: item x is posted.
 pub fn judge_post(s: &[u8], h: Head, x: u8) -> u8

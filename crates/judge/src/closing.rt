@@ -5,7 +5,7 @@ ghost use Rattle.state.specs.declared.Number.the-variants.{ToBackOf};
 ghost use Rattle.state.specs.Contents.{contents};
 ghost use Rattle.view.specs.View.{noClash, answerOn, boardOn};
 ghost use Rattle.view.specs.Ready.{Ready};
-use view::Head;
+use header::Head;
 
 // 7, close: peer j closes its open period.
 pub fn judge_close(s: &[u8], h: Head, j: u8) -> u8

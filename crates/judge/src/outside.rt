@@ -3,8 +3,8 @@ ghost use mathlib.Core.Path.{_≡_};
 ghost use Rattle.rules.specs.declared.Step.the-variants.{FalseSignature, FalseShare, FalseHash, FalseBacking, Down, Up};
 ghost use Rattle.view.specs.View.{noClash, answerOn};
 ghost use Rattle.view.specs.Ready.{Ready};
+use header::Head;
 use rules::Entry;
-use view::Head;
 
 // 13: the outsider makes dishonest peer j's signature on item x in period p.
 pub fn judge_false_signature(s: &[u8], h: Head, j: u8, p: u8, x: u8) -> u8
@@ -20,7 +20,7 @@ pub fn judge_false_signature(s: &[u8], h: Head, j: u8, p: u8, x: u8) -> u8
     if guard::names::no_item(h, x) {
         return 6;
     }
-    if guard::names::is_honest(h, j) {
+    if header::is_honest(h, j) {
         return 7;
     }
     if guard::items::not_posted(s, x) {
@@ -51,7 +51,7 @@ pub fn judge_false_hash(s: &[u8], h: Head, j: u8, p: u8, board: u64) -> u8
     if guard::names::no_board(h, board) {
         return 6;
     }
-    if guard::names::is_honest(h, j) {
+    if header::is_honest(h, j) {
         return 7;
     }
     if support::boards::unposted(s, h, board) {
@@ -77,7 +77,7 @@ pub fn judge_false_backing(s: &[u8], h: Head, j: u8, p: u8, board: u64) -> u8
     if guard::names::no_board(h, board) {
         return 6;
     }
-    if guard::names::is_honest(h, j) {
+    if header::is_honest(h, j) {
         return 7;
     }
     if support::boards::unposted(s, h, board) {

@@ -8,8 +8,8 @@ ghost use Rattle.state.specs.declared.Number.the-variants.{ToBackOf};
 ghost use Rattle.state.specs.Contents.{contents};
 ghost use Rattle.view.specs.View.{noClash, tableOf, stateOf, boardOn};
 ghost use Rattle.view.specs.Ready.{Ready};
+use header::Head;
 use rules::Entry;
-use view::Head;
 
 // There is no room for peer j's hash of period p.
 pub fn hash_full(s: &[u8], h: Head, j: u8, p: u8, board: u64) -> bool

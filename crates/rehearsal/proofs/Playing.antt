@@ -5,13 +5,13 @@ use mathlib.Core.List.{List}
 use mathlib.Core.Path.{_≡_, ap, subst, _∙_}
 use lib.ListN.{length, replicate}
 use borrow.Author.Tests.{eq-eqb, ne-eqb}
-use Rattle.header.specs.Header.{peersOf, thresholdOf, honestCount}
+use Rattle.header.specs.Header.{headOf, peersOf, thresholdOf, honestCount}
 use Rattle.clash.specs.Clash.{RowsOf}
 use Rattle.ballot.specs.Table.{refusal}
 use Rattle.state.specs.Layout.{size}
 use Rattle.state.specs.Contents.{contents, Canon}
-use Rattle.view.specs.declared.Head.{Head}
-use Rattle.engine.specs.Engine.{headOf, freshState}
+use Rattle.header.specs.declared.Head.{Head}
+use Rattle.engine.specs.Engine.{freshState}
 use Rattle.text.specs.Wrote.{over, Wrote}
 use Rattle.text.proofs.Writing.{_▷_, renamed}
 use Rattle.report.specs.Lines.{refusedLine, headLine}
@@ -34,13 +34,13 @@ module _ {input table : List ℕ} {h : Head} {rows : List ℕ} (M : Made input t
   pub showable : Canon s × (h .n ≤ 16) × (h .items ≤ 64)
   showable = let R = ready-now M (stepCount input) (ran .state) in (R .canon, R .room .peers, R .room .items)
 
-  first-line : (n : ℕ) → n ≡ honestCount table → headLine (h .n) (h .t) n ≡ headLine (peersOf (tableIn input)) (thresholdOf (tableIn input)) (honestCount (tableIn input))
+  first-line : (n : ℕ) → n ≡ honestCount (headOf table) → headLine (h .n) (h .t) n ≡ headLine (peersOf (tableIn input)) (thresholdOf (tableIn input)) (honestCount (headOf (tableIn input)))
   first-line n honest = rw (M .prepared .head, honest, M .cut)
 
   state-shown : stateLines h (contents s) ≡ stateLines (headOf (tableIn input)) (contents (stateAt input (stepCount input)))
   state-shown = rw (M .prepared .head, M .cut, ran .state)
 
-  pub whole-report : {n to : ℕ} {out is : List ℕ} → n ≡ honestCount table → Wrote out 0 (headLine (h .n) (h .t) n) mid a → Wrote more b (stateLines h (contents s)) is to → (s ≡ lastState input) × Wrote out 0 (reportOf input) is to
+  pub whole-report : {n to : ℕ} {out is : List ℕ} → n ≡ honestCount (headOf table) → Wrote out 0 (headLine (h .n) (h .t) n) mid a → Wrote more b (stateLines h (contents s)) is to → (s ≡ lastState input) × Wrote out 0 (reportOf input) is to
   unfolding lastState reportOf
   whole-report {n} honest first shown = (ran .state, renamed (first-line n honest) first ▷ ran .lines ▷ renamed state-shown shown)
 

@@ -10,7 +10,7 @@ use lib.ListN.{length, length-append}
 use borrow.Author.Tests.{eqb-true}
 use Rattle.base.specs.Refusals.{Refusals, first}
 use Rattle.base.proofs.Truth.{either}
-use Rattle.header.specs.Header.{peersOf, thresholdOf, honestCount}
+use Rattle.header.specs.Header.{headOf, peersOf, thresholdOf, honestCount}
 use Rattle.clash.specs.Clash.{clashIn}
 use Rattle.header.proofs.Fields.{honest-most}
 use Rattle.ballot.proofs.Sound.{sound}
@@ -24,7 +24,7 @@ use Rattle.rules.specs.Form.{read}
 use Rattle.rules.specs.Rules.{rule, answer, reply}
 use Rattle.state.specs.Contents.{contents}
 use Rattle.view.specs.View.{stateOf}
-use Rattle.engine.specs.Engine.{headOf, rulesTable, stepAnswer}
+use Rattle.engine.specs.Engine.{rulesTable, stepAnswer}
 use Rattle.engine.proofs.Fits.{good-fits}
 use Rattle.engine.proofs.Steps.{step-answers}
 use Rattle.text.specs.Wrote.{each}
@@ -100,10 +100,10 @@ module _ (input : List ℕ) (T : Taken input) where
       let fits = good-fits (headOf table) (clashIn table) (R .room) (contents (stateAt input (stepCount input))) (R .good (clashIn table)) in
       state-most (headOf table) (R .room .peers) (R .room .periods) (R .room .items) (contents (stateAt input (stepCount input))) (fits .counted) (λ e l. omega (arith, fits .entry e l .period))
 
-  first-line-most : length (headLine (peersOf table) (thresholdOf table) (honestCount table)) ≤ 32
+  first-line-most : length (headLine (peersOf table) (thresholdOf table) (honestCount (headOf table))) ≤ 32
   first-line-most =
       let S = sound table (T .table) in
-      head-most (peersOf table) (thresholdOf table) (honestCount table) (omega (arith, S .peers-most)) (omega (arith, S .peers-most, S .threshold-most))
+      head-most (peersOf table) (thresholdOf table) (honestCount (headOf table)) (omega (arith, S .peers-most)) (omega (arith, S .peers-most, S .threshold-most))
       (omega (arith, S .peers-most, honest-most table))
 
   report-most : length (reportOf input) ≤ reportMost

@@ -6,9 +6,10 @@ use native.Mathlib.Omega.{arith}
 use mathlib.Core.List.{List}
 use mathlib.Core.Path.{_≡_, refl, sym, ap, subst, subst₂, _∙_}
 use lib.ListN.{length}
-use Rattle.view.specs.declared.Head.{Head}
+use Rattle.header.specs.declared.Head.{Head}
 use Rattle.view.specs.Ready.{Ready}
-use Rattle.engine.specs.Engine.{headOf, stepAnswer, stepBytes}
+use Rattle.header.specs.Header.{headOf}
+use Rattle.engine.specs.Engine.{stepAnswer, stepBytes}
 use Rattle.engine.proofs.Calls.{room-of}
 use Rattle.engine.proofs.Start.{fresh-ready}
 use Rattle.engine.proofs.Steps.{step-leaves}

@@ -4,13 +4,13 @@ use mathlib.Core.Bool.{cond, _&&_}
 use mathlib.Core.List.{List, [], _++_}
 use lib.Dec.{eqb}
 use lib.ListN.{length}
-use Rattle.header.specs.Header.{peersOf, thresholdOf, honestCount}
+use Rattle.header.specs.Header.{headOf, peersOf, thresholdOf, honestCount}
 use Rattle.state.specs.Layout.{size}
 use Rattle.state.specs.Contents.{contents}
 use Rattle.text.specs.Wrote.{each}
 use Rattle.report.specs.Lines.{refusedLine, headLine, stepLine}
 use Rattle.report.specs.State.{stateLines}
-use Rattle.engine.specs.Engine.{headOf, stepAnswer, stepBytes, freshState}
+use Rattle.engine.specs.Engine.{stepAnswer, stepBytes, freshState}
 use Rattle.rehearsal.specs.Input.{tableIn, inputRefusal, stepCount, callAt}
 
 -- the state's bytes before step k, counted from 0
@@ -30,7 +30,7 @@ lastState input = stateAt input (stepCount input)
 unfoldable pub reportOf : List ℕ → List ℕ
 reportOf input =
     let table = tableIn input in
-    headLine (peersOf table) (thresholdOf table) (honestCount table)
+    headLine (peersOf table) (thresholdOf table) (honestCount (headOf table))
     ++ each (stepAt input) (stepCount input)
     ++ stateLines (headOf table) (contents (lastState input))
 

@@ -4,7 +4,7 @@ use mathlib.Core.List.{List}
 use mathlib.Core.Path.{_≡_}
 use lib.ListN.{length}
 use Rattle.ballot.specs.Table.{refusal}
-use Rattle.view.specs.declared.Head.{Head}
+use Rattle.header.specs.declared.Head.{Head}
 use Rattle.text.specs.Wrote.{Wrote, each}
 use Rattle.engine.specs.Engine.{Prepared}
 use Rattle.rehearsal.specs.Input.{inputMost, tableEnd, tableIn}

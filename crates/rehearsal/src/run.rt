@@ -11,11 +11,11 @@ use crate::input::call_at;
 use crate::input::step_count;
 use crate::input::table_end;
 use clash::rows::clash_rows;
+use header::Head;
 use header::honest_count;
 use report::lines::put_head;
 use report::lines::put_step;
 use report::shown::put_state;
-use view::Head;
 
 // Runs step k and writes its line.
 fn run_one(
@@ -65,7 +65,7 @@ fn tell(input: &[u8], table: &[u8], h: Head, rows: &[u64], s: &mut [u8], out: &m
     requires { ⌜ Made (now input) (now table) h (now rows) × (now s ≡ stateAt (now input) 0) ⌝ }
     ensures { λ to. ⌜ (now (s .exit) ≡ lastState (now (input .entry))) × Wrote (now (out .entry)) 0 (reportOf (now (input .entry))) (now (out .exit)) to ⌝ }
 {
-    let a = put_head(out, 0, h.n, h.t, honest_count(table));
+    let a = put_head(out, 0, h.n, h.t, honest_count(h));
     let b = run(input, table, h, rows, s, out, a);
     put_state(out, b, s, h)
 }
@@ -75,7 +75,7 @@ pub fn play(input: &[u8], table: &[u8], s: &mut [u8], out: &mut [u8]) -> usize
     requires { ⌜ Taken (now input) × (now table ≡ tableIn (now input)) × (length (now s) ≡ size) ⌝ }
     ensures { λ to. ⌜ (now (s .exit) ≡ lastState (now (input .entry))) × Wrote (now (out .entry)) 0 (reportOf (now (input .entry))) (now (out .exit)) to ⌝ }
 {
-    let h = engine::head_of(table);
+    let h = header::head_of(table);
     let rows = clash_rows(table);
     engine::clear(s);
     tell(input, table, h, &rows, s, out)

@@ -7,7 +7,7 @@ use Rattle.rules.specs.declared.Entry.{Entry}
 use Rattle.rules.specs.declared.Entry.the-variants.{Hash, Backing, Board}
 use Rattle.rules.specs.Bag.{entryAt}
 use Rattle.state.specs.Contents.{Contents}
-use Rattle.view.specs.declared.Head.{Head}
+use Rattle.header.specs.declared.Head.{Head}
 use Rattle.text.specs.Wrote.{Wrote, each}
 use Rattle.text.proofs.Writing.{none}
 use Rattle.report.specs.Lines.{boardLine}

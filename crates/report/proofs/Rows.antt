@@ -20,7 +20,7 @@ use Rattle.state.proofs.Tab.{tab-ext, getD-tab}
 use Rattle.sets.specs.Sets.{signersOf}
 use Rattle.sets.proofs.Words.{signers-out, signers-counted}
 use Rattle.database.specs.Database.{rowOf, databaseOf}
-use Rattle.view.specs.declared.Head.{Head}
+use Rattle.header.specs.declared.Head.{Head}
 use Rattle.text.specs.Wrote.{Wrote, each}
 use Rattle.text.proofs.Writing.{none, renamed}
 use Rattle.report.specs.Lines.{dbLine}

@@ -16,7 +16,7 @@ use Rattle.state.specs.declared.Fact.the-variants.{Known, Receipted}
 use Rattle.state.specs.Layout.{peers}
 use Rattle.state.specs.Contents.{Contents}
 use Rattle.sets.specs.Sets.{signerCount}
-use Rattle.view.specs.declared.Head.{Head}
+use Rattle.header.specs.declared.Head.{Head}
 use Rattle.text.specs.Wrote.{each}
 use Rattle.text.specs.Decimal.{field}
 use Rattle.text.proofs.Digits.{decimal-most, field-most}

@@ -7,7 +7,7 @@ use lib.Dec.{ltb}
 use lib.ListN.{getD, replicate}
 use Rattle.rules.specs.declared.Signers.{Signers}
 use Rattle.state.specs.Layout.{periods, items}
-use Rattle.view.specs.declared.Head.{Head}
+use Rattle.header.specs.declared.Head.{Head}
 use Rattle.text.specs.Wrote.{each}
 use Rattle.report.specs.Lines.{dbLine}
 

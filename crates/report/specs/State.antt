@@ -10,7 +10,7 @@ use Rattle.rules.specs.Bag.{entryAt}
 use Rattle.state.specs.declared.Fact.the-variants.{Receipted}
 use Rattle.state.specs.Contents.{Contents}
 use Rattle.sets.specs.Sets.{signerCount}
-use Rattle.view.specs.declared.Head.{Head}
+use Rattle.header.specs.declared.Head.{Head}
 use Rattle.text.specs.Wrote.{each}
 use Rattle.report.specs.Words.{end}
 use Rattle.report.specs.Lines.{dbLine, receiptLine, boardLine}

@@ -12,13 +12,13 @@ use crate::lines::put_receipt;
 use bag::bag_len;
 use bag::entry_at;
 use database::database;
+use header::Head;
 use rules::Entry;
 use rules::Signers;
 use state::Fact;
 use state::facts::is_there;
 use state::layout;
 use text::put_word;
-use view::Head;
 
 // The line of item x, if its set is not empty.
 fn put_db_item(out: &mut [u8], at: usize, set: Signers, j: u8, p: u8, x: u8) -> usize

@@ -20,7 +20,7 @@ use Rattle.state.specs.Layout.{peers, periods, items, entries}
 use Rattle.state.specs.Facts.{Peer, Row, Within}
 use Rattle.state.specs.Contents.{contents, Holds, withEntry}
 use Rattle.view.specs.Effect.{enterOn}
-use Rattle.view.specs.declared.Head.{Head}
+use Rattle.header.specs.declared.Head.{Head}
 use Rattle.view.specs.View.{noClash, tableOf, stateOf, answerOn}
 use Rattle.view.specs.Ready.{Room, Ready}
 

@@ -7,7 +7,7 @@ use borrow.Author.Tests.{ne-eqb}
 use Rattle.rules.specs.declared.Step.{Step}
 use Rattle.state.specs.Contents.{contents, Holds}
 use Rattle.state.proofs.Encode.{holds-bytes}
-use Rattle.view.specs.declared.Head.{Head}
+use Rattle.header.specs.declared.Head.{Head}
 use Rattle.view.specs.View.{tableOf, answerOn}
 use Rattle.view.specs.Effect.{effectOn}
 use Rattle.steps.specs.Stepped.{Stepped}

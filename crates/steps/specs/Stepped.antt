@@ -9,7 +9,7 @@ use Rattle.rules.specs.declared.Step.{Step}
 use Rattle.state.specs.declared.Number.the-variants.{CurrentOf, ToBackOf}
 use Rattle.state.specs.Contents.{Contents, contents}
 use Rattle.state.specs.Encode.{encode}
-use Rattle.view.specs.declared.Head.{Head}
+use Rattle.header.specs.declared.Head.{Head}
 use Rattle.view.specs.View.{tableOf, answerOn}
 use Rattle.view.specs.Effect.{effectOn}
 

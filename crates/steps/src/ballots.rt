@@ -3,10 +3,10 @@ ghost use Rattle.rules.specs.declared.Step.the-variants.{Post, Hand, Sign, Take
 ghost use Rattle.view.specs.View.{noClash, inRow};
 ghost use Rattle.view.specs.Ready.{Ready};
 ghost use Rattle.steps.specs.Stepped.{Stepped};
+use header::Head;
 use state::Fact;
 use state::facts::add_fact;
 use state::numbers::current_of;
-use view::Head;
 
 // 1, post: item x is posted.
 pub fn step_post(s: &mut [u8], h: Head, x: u8) -> u8

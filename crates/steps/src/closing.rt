@@ -6,12 +6,12 @@ ghost use Rattle.steps.specs.Stepped.{Stepped};
 use crate::change::enter;
 use crate::change::raise_current;
 use crate::change::raise_to_back;
+use header::Head;
 use rules::Entry;
 use state::Fact;
 use state::facts::add_fact;
 use state::numbers::to_back_of;
 use support::entry::board_named;
-use view::Head;
 
 // 7, close: peer j closes its open period.
 pub fn step_close(s: &mut [u8], h: Head, j: u8) -> u8

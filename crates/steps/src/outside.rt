@@ -4,12 +4,12 @@ ghost use Rattle.view.specs.View.{noClash};
 ghost use Rattle.view.specs.Ready.{Ready};
 ghost use Rattle.steps.specs.Stepped.{Stepped};
 use crate::change::enter;
+use header::Head;
 use rules::Entry;
 use state::Fact;
 use state::Number;
 use state::facts::add_fact;
 use state::numbers::set_value;
-use view::Head;
 
 // 13: the outsider makes dishonest peer j's signature on item x in period p.
 pub fn step_false_signature(s: &mut [u8], h: Head, j: u8, p: u8, x: u8) -> u8

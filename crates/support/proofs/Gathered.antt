@@ -28,7 +28,7 @@ use Rattle.state.specs.declared.Fact.the-variants.{Heard}
 use Rattle.state.specs.Layout.{hashKind, backingKind}
 use Rattle.state.specs.Contents.{Contents, contents}
 use Rattle.bag.specs.Bag.{signerWith}
-use Rattle.view.specs.declared.Head.{Head}
+use Rattle.header.specs.declared.Head.{Head}
 use Rattle.view.specs.View.{noClash, told}
 use Rattle.view.specs.Ready.{Ready}
 use Rattle.view.proofs.Heard.{told-at, told-in, number-told}

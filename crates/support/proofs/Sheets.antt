@@ -21,7 +21,7 @@ use Rattle.state.specs.declared.Fact.the-variants.{Posted, Known}
 use Rattle.state.specs.Contents.{Contents, contents}
 use Rattle.sets.specs.Sets.{signerCount, postedOf}
 use Rattle.database.specs.Database.{reaches, peerBoard}
-use Rattle.view.specs.declared.Head.{Head}
+use Rattle.header.specs.declared.Head.{Head}
 use Rattle.view.specs.View.{noClash, tableOf, stateOf}
 use Rattle.view.specs.Ready.{Ready}
 use Rattle.guard.proofs.Counts.{signers-weigh}

@@ -15,8 +15,8 @@ use crate::entry::period_of;
 use crate::signers::few_backers;
 use bag::entry_at;
 use database::board_of;
+use header::Head;
 use sets::posted;
-use view::Head;
 
 // Peer j's board of period p.
 pub fn board_by(s: &[u8], h: Head, j: u8, p: u8) -> u64

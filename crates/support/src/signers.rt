@@ -14,9 +14,9 @@ ghost use Rattle.view.specs.Ready.{Ready};
 ghost use Rattle.support.specs.Signers.{heardSigner, backSigner, withPeer, gathered};
 use bag::bag_len;
 use bag::signer_at;
+use header::Head;
 use state::facts::is_heard_by;
 use state::layout;
-use view::Head;
 
 // The set of peers with peer k; no peer is 0 or above 16.
 fn with_peer(set: u16, k: u8) -> u16

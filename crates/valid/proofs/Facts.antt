@@ -13,7 +13,7 @@ use Rattle.state.specs.Places.{place, factAt}
 use Rattle.state.specs.Contents.{contents}
 use Rattle.state.proofs.Ranges.{range-within, within-range}
 use Rattle.state.proofs.Places.{place-lt, at-place, fact-at}
-use Rattle.view.specs.declared.Head.{Head}
+use Rattle.header.specs.declared.Head.{Head}
 use Rattle.view.specs.StateOk.{factOk, factsOk}
 
 module _ (h : Head) (s : List ℕ) where

@@ -14,7 +14,7 @@ use Rattle.state.specs.declared.Number.the-variants.{CurrentOf, ToBackOf, DownO
 use Rattle.state.specs.Layout.{peers, currentAt, toBackAt, downAt}
 use Rattle.state.specs.Numbers.{peerOf, slot}
 use Rattle.state.specs.Contents.{contents}
-use Rattle.view.specs.declared.Head.{Head}
+use Rattle.header.specs.declared.Head.{Head}
 use Rattle.view.specs.StateOk.{numbersOk, peerOk, peersOk}
 
 module _ (h : Head) (j p c d : ℕ) where

@@ -16,7 +16,7 @@ use Rattle.state.specs.Facts.{isPeer}
 use Rattle.state.specs.Contents.{Contents, contents}
 use Rattle.state.proofs.Ranges.{peer-within}
 use Rattle.state.proofs.Frame.{number-none}
-use Rattle.view.specs.declared.Head.{Head}
+use Rattle.header.specs.declared.Head.{Head}
 use Rattle.view.specs.StateOk.{numbersOk, peerOk, peersOk}
 
 -- what holds of the three numbers of a peer

@@ -17,7 +17,7 @@ use Rattle.state.specs.declared.Fact.the-variants.{Posted, Signed, Shared, Rece
 use Rattle.state.specs.declared.Number.the-variants.{DownOf}
 use Rattle.state.specs.Layout.{size}
 use Rattle.state.specs.Contents.{contents}
-use Rattle.view.specs.declared.Head.{Head}
+use Rattle.header.specs.declared.Head.{Head}
 use Rattle.view.specs.View.{noClash, tableOf, stateOf}
 use Rattle.view.specs.StateOk.{factOk, factsOk, peersOk, bagOk, stateOk}
 use Rattle.view.specs.Ready.{Room, Ready}

@@ -20,7 +20,7 @@ use Rattle.state.specs.Facts.{Within}
 use Rattle.state.specs.Places.{place, factAt, postedBy, signedBy, sharedBy, receiptedBy, heldBy, knownBy, heardBy}
 use Rattle.state.specs.Contents.{contents}
 use Rattle.state.proofs.Places.{fact-at}
-use Rattle.view.specs.declared.Head.{Head}
+use Rattle.header.specs.declared.Head.{Head}
 use Rattle.view.specs.StateOk.{isSpot, factOk, factsOk}
 use Rattle.valid.specs.Rows.{onlyIn, first, inRows, mask}
 use Rattle.valid.specs.Regions.{entryBytes, hashIn, cells, seats, spots, postedOk, signedOk, sharedOk, receiptedOk, heldOk, knownOk, heardOk, itemSetsOk, peerSetsOk}

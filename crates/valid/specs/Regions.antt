@@ -6,7 +6,7 @@ use Rattle.rules.specs.declared.Entry.{Entry}
 use Rattle.rules.specs.Bag.{isHash, entryAt}
 use Rattle.state.specs.Layout.{peers, periods, items, peerBytes, itemBytes, postedAt, signedAt, sharedAt, receiptedAt, heldAt, databaseAt, heardAt}
 use Rattle.state.specs.Contents.{contents}
-use Rattle.view.specs.declared.Head.{Head}
+use Rattle.header.specs.declared.Head.{Head}
 use Rattle.valid.specs.Rows.{onlyIn, first, inRows}
 
 -- the bytes of the set of entries that a peer heard

@@ -4,11 +4,11 @@ ghost use lib.ListN.{length};
 ghost use Rattle.state.specs.Layout.{size};
 ghost use Rattle.view.specs.StateOk.{numbersOk, peersOk};
 use base::wide;
+use header::Head;
 use state::layout::CURRENT;
 use state::layout::DOWN;
 use state::layout::PEERS;
 use state::layout::TO_BACK;
-use view::Head;
 
 // Whether p, c and the flag of peer j are within the table's ranges.
 fn numbers_ok(h: Head, j: usize, p: u8, c: u8, d: u8) -> bool

@@ -7,8 +7,8 @@ use crate::counters::peers_ok;
 use crate::sets::facts_ok;
 use entries::bag_ok;
 use entries::count_of;
+use header::Head;
 use state::layout::SIZE;
-use view::Head;
 
 mod counters;
 mod hashes;

@@ -6,9 +6,9 @@ ghost use Rattle.state.specs.Layout.{periods, items, peerBytes, itemBytes};
 ghost use Rattle.valid.specs.Rows.{first, inRows, byteOf, mask};
 ghost use Rattle.valid.specs.Regions.{cells, seats};
 use base::wide;
+use header::Head;
 use state::layout::ITEM_BYTES;
 use state::layout::PEER_BYTES;
-use view::Head;
 
 // Byte b of the row in which the first n bits are 1.
 fn first_byte(n: u8, b: usize) -> u8

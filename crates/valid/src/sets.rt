@@ -14,6 +14,7 @@ use crate::rows::each_row;
 use crate::rows::each_table;
 use crate::rows::only;
 use base::wide;
+use header::Head;
 use state::layout::DATABASE;
 use state::layout::HEARD;
 use state::layout::HELD;
@@ -23,7 +24,6 @@ use state::layout::POSTED;
 use state::layout::RECEIPTED;
 use state::layout::SHARED;
 use state::layout::SIGNED;
-use view::Head;
 
 // Posted items, receipts, and the items that each peer holds.
 fn item_sets_ok(s: &[u8], h: Head) -> bool

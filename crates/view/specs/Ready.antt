@@ -4,7 +4,7 @@ use mathlib.Core.Bool.{Bool}
 use mathlib.Core.List.{List}
 use Rattle.state.specs.Layout.{peers, periods, items}
 use Rattle.state.specs.Contents.{contents, Canon}
-use Rattle.view.specs.declared.Head.{Head}
+use Rattle.header.specs.declared.Head.{Head}
 use Rattle.view.specs.View.{tableOf}
 use Rattle.view.specs.Good.{Good}
 

@@ -19,7 +19,7 @@ use Rattle.state.specs.Layout.{peers, entries, currentAt, entryStart, signerIn,
 use Rattle.state.specs.Places.{factAt}
 use Rattle.rules.specs.Bag.{kindOf, signerOf}
 use Rattle.state.specs.Contents.{Contents, count, entryAt, contents}
-use Rattle.view.specs.declared.Head.{Head}
+use Rattle.header.specs.declared.Head.{Head}
 
 module _ (h : Head) where
   -- names of the table

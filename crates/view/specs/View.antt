@@ -3,7 +3,7 @@ use Prim.Native.Nat.{ℕ, suc}
 use mathlib.Core.Bool.{Bool, false, _&&_, _||_}
 use mathlib.Core.List.{List, [], _∷_}
 use lib.Dec.{eqb}
-use Rattle.base.specs.Bits.{bit, member}
+use Rattle.base.specs.Bits.{bit}
 use Rattle.base.specs.Weight.{ones}
 use Rattle.rules.specs.declared.Entry.{Entry}
 use Rattle.rules.specs.declared.Entry.the-variants.{Hash}
@@ -15,11 +15,12 @@ use Rattle.rules.specs.Rules.{answer, boardBy}
 use Rattle.state.specs.declared.Fact.the-variants.{Posted, Signed, Shared, Receipted, Held, Known, Heard}
 use Rattle.state.specs.declared.Number.the-variants.{CurrentOf, ToBackOf, DownOf}
 use Rattle.state.specs.Contents.{Contents, contents}
-use Rattle.view.specs.declared.Head.{Head}
+use Rattle.header.specs.declared.Head.{Head}
+use Rattle.header.specs.Header.{isHonest}
 
 -- the table of the rules: every weight is 1
 abbrev pub tableOf : Head → (ℕ → ℕ → Bool) → Table
-tableOf h clash = record { n = h .n; t = h .t; honest = member (h .honest); weightOf = ones; periods = h .periods; items = h .items; clash = clash }
+tableOf h clash = record { n = h .n; t = h .t; honest = isHonest h; weightOf = ones; periods = h .periods; items = h .items; clash = clash }
 
 -- of most steps the rules do not ask what clashes: they are judged as if nothing did
 abbrev pub noClash : ℕ → ℕ → Bool

@@ -11,13 +11,10 @@ use Rattle.header.proofs.honest_count.Statement.{statement}
 use Rattle.header.proofs.honest_count.Tie as tie
 
 abbrev Inv-loop : tie.InvT-loop
-Inv-loop table n count₀ k₀ count k = (k ≤ n) × (count ≤ k) × (count ≡ weight ones k (isHonest table))
+Inv-loop h n count₀ k₀ count k = (k ≤ n) × (count ≤ k) × (count ≡ weight ones k (isHonest h))
 
 abbrev μ-loop : tie.MeasureT-loop
-μ-loop table n count₀ k₀ count k = n - k
-
-peers-requires : tie.Need-peers-requires Inv-loop μ-loop
-peers-requires c κs = search needs
+μ-loop h n count₀ k₀ count k = n - k
 
 loop-holds : tie.Need-loop-holds Inv-loop μ-loop
 loop-holds c = (omega arith, omega arith, count-none _)
@@ -37,7 +34,7 @@ loop-less c = omega arith
 loop-again : tie.Need-loop-again Inv-loop μ-loop
 loop-again c =
     let l = c .before .before .before .loop in
-    let one-more = count-in (isHonest _) (l .k) (sym (c .before .is-honest .ensures) ∙ c .if1 .taken) in
+    let one-more = count-in (isHonest (c .before .before .before .before .args .h)) (l .k) (sym (c .before .is-honest .ensures) ∙ c .if1 .taken) in
     omega arith
 
 loop-less-2 : tie.Need-loop-less-2 Inv-loop μ-loop
@@ -46,11 +43,11 @@ loop-less-2 c = omega arith
 loop-again-2 : tie.Need-loop-again-2 Inv-loop μ-loop
 loop-again-2 c =
     let l = c .before .before .before .loop in
-    let no-more = count-out (isHonest _) (l .k) (sym (c .before .is-honest .ensures) ∙ c .if1 .left) in
+    let no-more = count-out (isHonest (c .before .before .before .before .args .h)) (l .k) (sym (c .before .is-honest .ensures) ∙ c .if1 .left) in
     omega arith
 
 returns : tie.Need-returns Inv-loop μ-loop
-returns c = let l = c .before .loop in count-end (isHonest _) (l .k) _ (omega arith) (l .inv .2)
+returns c = let l = c .before .loop in count-end (isHonest (c .before .before .args .h)) (l .k) _ (omega arith) (l .inv .2)
 
 pub honest-count-spec : {M : Type 1} → statement M
 honest-count-spec =
@@ -58,7 +55,6 @@ honest-count-spec =
     (tie.spec
     Inv-loop
     μ-loop
-    peers-requires
     loop-holds
     add-k
     is-honest-requires

@@ -1,8 +1,8 @@
 -- Field by field, by `all-read`.
 use borrow.Author.Needs.{needs}
-use Rattle.engine.proofs.Calls.{all-read}
-use Rattle.engine.proofs.head_of.Statement.{statement}
-use Rattle.engine.proofs.head_of.Tie as tie
+use Rattle.header.proofs.Fields.{all-read}
+use Rattle.header.proofs.head_of.Statement.{statement}
+use Rattle.header.proofs.head_of.Tie as tie
 
 peers-requires : tie.Need-peers-requires
 peers-requires c κs = search needs
