@@ -1,3 +1,4 @@
+pub mod Clashing
 pub mod Fits
 pub mod Start
 pub mod Steps

@@ -1,5 +1,5 @@
 // The engine: fresh and step, for any bytes. The table and the state are validated once for each call; the inner step re-validates nothing.
-// It uses header to read the table, ballot to judge it, valid to judge the state, and advance for the step.
+// It uses header to read the table, ballot to judge it, valid to judge the state, clash for what clashes, and steps.
 ghost use mathlib.Core.Path.{_≡_};
 ghost use lib.ListN.{length, replicate};
 ghost use Rattle.view.specs.Ready.{Ready};
@@ -8,6 +8,8 @@ use ballot::check_table;
 use header::Head;
 use rules::Call;
 use state::layout::SIZE;
+
+mod advance; // the inner step, whichever of the eighteen it is
 
 // Writes 0 in every byte.
 pub fn clear(s: &mut [u8])

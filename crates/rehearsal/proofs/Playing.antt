@@ -1,10 +1,10 @@
--- The report from its parts, and the three ways in which a rehearsal ends.
+-- The report from its parts, and the two ways in which a rehearsal ends.
 use Prim.Native.Nat.{ℕ, _≤_}
 use native.Mathlib.Omega.{arith}
 use mathlib.Core.List.{List}
 use mathlib.Core.Path.{_≡_, ap, subst, _∙_}
 use lib.ListN.{length, replicate}
-use borrow.Author.Tests.{eq-eqb, ne-eqb}
+use borrow.Author.Tests.{ne-eqb}
 use Rattle.header.specs.Header.{headOf, peersOf, thresholdOf, honestCount}
 use Rattle.clash.specs.Clash.{RowsOf}
 use Rattle.ballot.specs.Table.{refusal}
@@ -16,11 +16,11 @@ use Rattle.text.specs.Wrote.{over, Wrote}
 use Rattle.text.proofs.Writing.{_▷_, renamed}
 use Rattle.report.specs.Lines.{refusedLine, headLine}
 use Rattle.report.specs.State.{stateLines}
-use Rattle.rehearsal.specs.Input.{tableIn, inputRefusal, stepCount}
-use Rattle.rehearsal.specs.Rehearsal.{stateAt, lastState, reportOf, rehearsal, reported, stateLeft, reportMost}
+use Rattle.rehearsal.specs.Input.{tableIn, stepCount}
+use Rattle.rehearsal.specs.Rehearsal.{stateAt, lastState, reportOf, lentRefusal, reported, stateLeft, reportMost}
 use Rattle.rehearsal.specs.Running.{Taken, Made, Ran}
 use Rattle.rehearsal.proofs.States.{ready-now}
-use Rattle.rehearsal.proofs.Sizes.{rehearsal-most}
+use Rattle.rehearsal.proofs.Sizes.{reported-most}
 
 pub cleared : (input t : List ℕ) (n : ℕ) → n ≡ size → t ≡ replicate n 0 → t ≡ stateAt input 0
 unfolding stateAt freshState
@@ -48,24 +48,18 @@ module _ {input table : List ℕ} {h : Head} {rows : List ℕ} (M : Made input t
 abbrev pub Promised : List ℕ → List ℕ → List ℕ → List ℕ → List ℕ → ℕ → Type 0
 Promised input s out t is r = (r ≡ length (reported input s)) × ((r ≤ reportMost) × ((is ≡ over out 0 (reported input s)) × (t ≡ stateLeft input s)))
 
-module _ (input s out : List ℕ) where
-  pub no-report : (length s ≡ size → ⊥) → Promised input s out s out 0
-  unfolding reported stateLeft over
-  no-report wrong = (rw (ne-eqb (length s) size wrong), (omega arith, (rw (ne-eqb (length s) size wrong), rw (ne-eqb (length s) size wrong))))
+module _ (input s out : List ℕ) {t is : List ℕ} {to : ℕ} where
+  written : (text : List ℕ) → reported input s ≡ text → Wrote out 0 text is to → t ≡ stateLeft input s → Promised input s out t is to
+  written text e w left =
+      let small : length text ≤ reportMost = subst (λ (u : List ℕ). length u ≤ reportMost) e (reported-most input s) in
+      let put = w .put (omega (arith, small)) in
+      rw e (omega (arith, put .place), (omega (arith, put .place, small), (put .bytes, left)))
 
-  module _ (long : length s ≡ size) {t is : List ℕ} {to : ℕ} where
-    written : (text : List ℕ) → rehearsal input ≡ text → Wrote out 0 text is to → t ≡ stateLeft input s → Promised input s out t is to
-    unfolding reported
-    written text e w left =
-        let small : length text ≤ reportMost = subst (λ (u : List ℕ). length u ≤ reportMost) e (rehearsal-most input) in
-        let put = w .put (omega (arith, small)) in
-        rw (eq-eqb (length s) size long, e) (omega (arith, put .place), (omega (arith, put .place, small), (put .bytes, left)))
+  module _ {r : ℕ} (judged : r ≡ lentRefusal input s) where
+    pub refused : (r ≡ 0 → ⊥) → Wrote out 0 (refusedLine r) is to → t ≡ s → Promised input s out t is to
+    unfolding reported stateLeft
+    refused bad w same = written (refusedLine r) (rw (← judged, ne-eqb r 0 bad)) w (rw (← judged, ne-eqb r 0 bad) same)
 
-    module _ {r : ℕ} (judged : r ≡ inputRefusal input) where
-      pub refused : (r ≡ 0 → ⊥) → Wrote out 0 (refusedLine r) is to → t ≡ s → Promised input s out t is to
-      unfolding rehearsal stateLeft
-      refused bad w same = written (refusedLine r) (rw (← judged, ne-eqb r 0 bad)) w (rw (← judged, ne-eqb r 0 bad, eq-eqb (length s) size long) same)
-
-      pub reports : r ≡ 0 → (t ≡ lastState input) × Wrote out 0 (reportOf input) is to → Promised input s out t is to
-      unfolding rehearsal stateLeft
-      reports good p = written (reportOf input) (rw (← judged, good)) (p .1) (rw (← judged, good, eq-eqb (length s) size long) (p .0))
+    pub reports : r ≡ 0 → (t ≡ lastState input) × Wrote out 0 (reportOf input) is to → Promised input s out t is to
+    unfolding reported stateLeft
+    reports good p = written (reportOf input) (rw (← judged, good)) (p .1) (rw (← judged, good) (p .0))

@@ -22,6 +22,7 @@ use Rattle.rules.specs.Table.{Table}
 use Rattle.rules.specs.State.{State}
 use Rattle.rules.specs.Form.{read}
 use Rattle.rules.specs.Rules.{rule, answer, reply}
+use Rattle.state.specs.Layout.{size}
 use Rattle.state.specs.Contents.{contents}
 use Rattle.view.specs.View.{stateOf}
 use Rattle.engine.specs.Engine.{rulesTable, stepAnswer}
@@ -32,9 +33,9 @@ use Rattle.report.specs.Lines.{refusedLine, headLine}
 use Rattle.report.specs.State.{stateLines}
 use Rattle.report.proofs.Sizes.{each-most, refused-most, head-most, step-most, state-most}
 use Rattle.rehearsal.specs.Input.{tableIn, inputRefusals, inputRefusal, stepCount, callAt}
-use Rattle.rehearsal.specs.Rehearsal.{stateAt, stepAt, lastState, reportOf, rehearsal, reportMost}
+use Rattle.rehearsal.specs.Rehearsal.{stateAt, stepAt, lastState, reportOf, lentRefusal, reported, reportMost}
 use Rattle.rehearsal.specs.Running.{Taken}
-use Rattle.rehearsal.proofs.Taking.{taken}
+use Rattle.rehearsal.proofs.Taking.{taken, both-passed}
 use Rattle.rehearsal.proofs.States.{state-ready}
 
 -- an answer is one of its refusals' numbers, and so at most their sum
@@ -78,9 +79,14 @@ module _ (T : Table) (s : State) where
   reply-small (Formed st) = answer-small st
   reply-small Malformed = omega arith
 
-refusal-small : (input : List ℕ) → inputRefusal input < 100
-unfolding inputRefusal
-refusal-small input = omega (arith, first-most (inputRefusals input))
+refusal-small : (input s : List ℕ) → lentRefusal input s < 100
+unfolding inputRefusal lentRefusal
+refusal-small input s = go (eqb (first (inputRefusals input)) 0) (eqb (length s) size)
+  where
+    go : (taken long : Bool) → cond taken (cond long 0 14) (first (inputRefusals input)) < 100
+    go true true = omega arith
+    go true false = omega arith
+    go false long = omega (arith, first-most (inputRefusals input))
 
 module _ (input : List ℕ) (T : Taken input) where
   abbrev table : List ℕ
@@ -104,16 +110,17 @@ module _ (input : List ℕ) (T : Taken input) where
   first-line-most =
       let S = sound table (T .table) in
       head-most (peersOf table) (thresholdOf table) (honestCount (headOf table)) (omega (arith, S .peers-most)) (omega (arith, S .peers-most, S .threshold-most))
-      (omega (arith, S .peers-most, honest-most table))
+      (omega (arith, S .peers-most, honest-most (headOf table)))
 
   report-most : length (reportOf input) ≤ reportMost
   unfolding reportOf
   report-most = simp length-append (omega (arith, first-line-most, lines-most, shown-most))
 
-pub rehearsal-most : (input : List ℕ) → length (rehearsal input) ≤ reportMost
-unfolding rehearsal
-rehearsal-most input = go (either (eqb (inputRefusal input) 0))
+pub reported-most : (input s : List ℕ) → length (reported input s) ≤ reportMost
+unfolding reported
+reported-most input s = go (either (eqb (lentRefusal input s) 0))
   where
-    go : (eqb (inputRefusal input) 0 ≡ true) ⊎ (eqb (inputRefusal input) 0 ≡ false) → length (cond (eqb (inputRefusal input) 0) (reportOf input) (refusedLine (inputRefusal input))) ≤ reportMost
-    go (inl e) = rw e (report-most input (taken input (eqb-true _ 0 e)))
-    go (inr e) = rw e (omega (arith, refused-most (inputRefusal input) (refusal-small input)))
+    go : (eqb (lentRefusal input s) 0 ≡ true) ⊎ (eqb (lentRefusal input s) 0 ≡ false)
+        → length (cond (eqb (lentRefusal input s) 0) (reportOf input) (refusedLine (lentRefusal input s))) ≤ reportMost
+    go (inl e) = rw e (report-most input (taken input (both-passed input s (eqb-true _ 0 e) .0)))
+    go (inr e) = rw e (omega (arith, refused-most (lentRefusal input s) (refusal-small input s)))

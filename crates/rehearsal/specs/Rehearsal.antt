@@ -1,7 +1,7 @@
 -- The rehearsal of document 01: each step runs on the state that the one before it left, and the report tells the answers and what is held at the end.
 use Prim.Native.Nat.{ℕ, zero, suc, _+_}
-use mathlib.Core.Bool.{cond, _&&_}
-use mathlib.Core.List.{List, [], _++_}
+use mathlib.Core.Bool.{cond}
+use mathlib.Core.List.{List, _++_}
 use lib.Dec.{eqb}
 use lib.ListN.{length}
 use Rattle.header.specs.Header.{headOf, peersOf, thresholdOf, honestCount}
@@ -34,17 +34,17 @@ reportOf input =
     ++ each (stepAt input) (stepCount input)
     ++ stateLines (headOf table) (contents (lastState input))
 
--- the whole output of the program
-unfoldable pub rehearsal : List ℕ → List ℕ
-rehearsal input = cond (eqb (inputRefusal input) 0) (reportOf input) (refusedLine (inputRefusal input))
+-- the first refusal of a rehearsal in a lent state buffer: of the input, then 14 for the buffer's length
+unfoldable pub lentRefusal : List ℕ → List ℕ → ℕ
+lentRefusal input s = cond (eqb (inputRefusal input) 0) (cond (eqb (length s) size) 0 14) (inputRefusal input)
 
--- the rehearsal in a lent state buffer: one of the wrong length gives no report
+-- the whole output: the report, or the line of the refusal
 unfoldable pub reported : List ℕ → List ℕ → List ℕ
-reported input s = cond (eqb (length s) size) (rehearsal input) []
+reported input s = cond (eqb (lentRefusal input s) 0) (reportOf input) (refusedLine (lentRefusal input s))
 
--- what it leaves in the buffer: a refused input alters nothing
+-- what is left in the buffer: a refused rehearsal alters nothing
 unfoldable pub stateLeft : List ℕ → List ℕ → List ℕ
-stateLeft input s = cond (eqb (length s) size && eqb (inputRefusal input) 0) (lastState input) s
+stateLeft input s = cond (eqb (lentRefusal input s) 0) (lastState input) s
 
 -- no report is longer
 abbrev pub reportMost : ℕ

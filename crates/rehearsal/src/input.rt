@@ -1,9 +1,11 @@
-// The input: where its table ends, its first refusal, and its steps.
+// The input: where its table ends, the first refusal, and its steps.
 ghost use mathlib.Core.Path.{_≡_};
 ghost use Prim.Native.Nat.{_≤_};
 ghost use lib.ListN.{length};
 ghost use Rattle.rehearsal.specs.Input.{inputMost, tableEnd, tableIn, tableThere, inputRefusal, stepCount, callAt};
+ghost use Rattle.rehearsal.specs.Rehearsal.{lentRefusal};
 use crate::INPUT_MOST;
+use state::layout::SIZE;
 
 // The bytes of a step.
 const STEP_SIZE: usize = 13;
@@ -46,6 +48,20 @@ pub fn check_input(input: &[u8]) -> u8
         return 2;
     }
     ballot::check_table(table_in(input))
+}
+
+// The first refusal of a rehearsal in a lent state: of the input, then 14 for the state's length; 0 where none applies.
+pub fn check_lent(input: &[u8], s: &[u8]) -> u8
+    ensures { λ r. ⌜ r ≡ lentRefusal (now (input .entry)) (now (s .entry)) ⌝ }
+{
+    let refusal = check_input(input);
+    if refusal != 0 {
+        return refusal;
+    }
+    if s.len() != SIZE {
+        return 14;
+    }
+    0
 }
 
 // How many steps there are: a short tail is one.

@@ -7,7 +7,6 @@ ghost use lib.ListN.{length};
 ghost use Rattle.text.specs.Wrote.{over};
 ghost use Rattle.rehearsal.specs.Rehearsal.{reported, stateLeft, reportMost};
 use report::lines::put_refused;
-use state::layout::SIZE;
 
 // The most bytes of an input that is judged.
 pub const INPUT_MOST: usize = 65536;
@@ -19,17 +18,14 @@ mod input; // where the table ends, what is refused, and the steps
 mod run; // the steps, and the report around them
 
 // Rehearses the input and answers the report's length; as much of the report as fits is written.
-// A state of the wrong length gives no report; a refused input leaves the state as it was.
+// What is refused, the input with 15 or 1 to 4 or the state's length with 14, leaves the state as it was.
 pub fn rehearse(input: &[u8], s: &mut [u8], out: &mut [u8]) -> usize
     ensures { λ r. ⌜ r ≡ length (reported (now (input .entry)) (now (s .entry))) ⌝ }
     ensures { λ r. ⌜ r ≤ reportMost ⌝ }
     ensures { λ _. ⌜ now (out .exit) ≡ over (now (out .entry)) 0 (reported (now (input .entry)) (now (s .entry))) ⌝ }
     ensures { λ _. ⌜ now (s .exit) ≡ stateLeft (now (input .entry)) (now (s .entry)) ⌝ }
 {
-    if s.len() != SIZE {
-        return 0;
-    }
-    let refusal = input::check_input(input);
+    let refusal = input::check_lent(input, s);
     if refusal != 0 {
         return put_refused(out, 0, refusal);
     }

@@ -1,8 +1,8 @@
 -- Each arm is the step that the match found, by `of-step`; a hand, with the row of its item, by `of-hand`. A paragraph for each arm before its call, then one for each after it.
 use borrow.Author.Needs.{needs}
-use Rattle.advance.proofs.Clashing.{of-step, of-hand}
-use Rattle.advance.proofs.advance.Statement.{statement}
-use Rattle.advance.proofs.advance.Tie as tie
+use Rattle.engine.proofs.Clashing.{of-step, of-hand}
+use Rattle.engine.proofs.advance.advance.Statement.{statement}
+use Rattle.engine.proofs.advance.advance.Tie as tie
 
 enum-known-st : tie.Need-enum-known-st
 enum-known-st c = search needs
