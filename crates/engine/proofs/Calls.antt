@@ -6,7 +6,7 @@ use mathlib.Core.List.{List, []}
 use mathlib.Core.Path.{_≡_, sym, ap, subst, _∙_}
 use lib.ListN.{length, replicate}
 use borrow.Author.Tests.{eq-eqb, ne-eqb}
-use Rattle.header.specs.Header.{headOf}
+use Rattle.header.specs.Header.{headOf, itemsOf}
 use Rattle.clash.specs.Clash.{clashIn}
 use Rattle.ballot.specs.Table.{refusal}
 use Rattle.ballot.proofs.Sound.{sound}
