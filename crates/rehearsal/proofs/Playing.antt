@@ -34,13 +34,15 @@ module _ {input table : List ℕ} {h : Head} {rows : List ℕ} (M : Made input t
   pub showable : Canon s × (h .n ≤ 16) × (h .items ≤ 64)
   showable = let R = ready-now M (stepCount input) (ran .state) in (R .canon, R .room .peers, R .room .items)
 
-  first-line : (n : ℕ) → n ≡ honestCount (headOf table) → headLine (h .n) (h .t) n ≡ headLine (peersOf (tableIn input)) (thresholdOf (tableIn input)) (honestCount (headOf (tableIn input)))
-  first-line n honest = rw (M .prepared .head, honest, M .cut)
+  first-line : (n : ℕ) → n ≡ honestCount h
+      → headLine (h .n) (h .t) n ≡ headLine (peersOf (tableIn input)) (thresholdOf (tableIn input)) (honestCount (headOf (tableIn input)))
+  first-line n honest = rw (honest, M .prepared .head, M .cut)
 
   state-shown : stateLines h (contents s) ≡ stateLines (headOf (tableIn input)) (contents (stateAt input (stepCount input)))
   state-shown = rw (M .prepared .head, M .cut, ran .state)
 
-  pub whole-report : {n to : ℕ} {out is : List ℕ} → n ≡ honestCount (headOf table) → Wrote out 0 (headLine (h .n) (h .t) n) mid a → Wrote more b (stateLines h (contents s)) is to → (s ≡ lastState input) × Wrote out 0 (reportOf input) is to
+  pub whole-report : {n to : ℕ} {out is : List ℕ} → n ≡ honestCount h → Wrote out 0 (headLine (h .n) (h .t) n) mid a
+      → Wrote more b (stateLines h (contents s)) is to → (s ≡ lastState input) × Wrote out 0 (reportOf input) is to
   unfolding lastState reportOf
   whole-report {n} honest first shown = (ran .state, renamed (first-line n honest) first ▷ ran .lines ▷ renamed state-shown shown)
 

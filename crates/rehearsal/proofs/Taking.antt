@@ -36,7 +36,7 @@ module _ (input : List ℕ) (zero : inputRefusal input ≡ 0) where
 
 -- the refusals of a rehearsal in a lent state, one after the other
 
-module _ {input s : List ℕ} {r : ℕ} (judged : r ≡ inputRefusal input) where
+module _ (input s : List ℕ) {r : ℕ} (judged : r ≡ inputRefusal input) where
   pub input-refused : (r ≡ 0 → ⊥) → r ≡ lentRefusal input s
   unfolding lentRefusal
   input-refused bad = rw (sym judged, ne-eqb r 0 bad)
