@@ -13,7 +13,7 @@ use Rattle.rules.specs.Bag.{isIn, isHash, isBacking, entryAt, periodOf, boardOf
 use Rattle.rules.specs.State.{State, with-signed, with-shared, with-db, with-heard}
 use Rattle.rules.specs.Rules.{answer, next, boardBy, backers}
 use Rattle.rules.specs.Repeat.{There}
-use Rattle.rules.specs.Valid.{Peer, Cell, Sheet}
+use Rattle.rules.specs.Valid.{Peer, Cell, BoardIn}
 use Rattle.edges.specs.Steps.{Able}
 
 -- The peers that a step needs up: the one that acts in steps 2 to 5 and 7 to 11, and the other of step 8. Its other names are in range.
@@ -57,8 +57,8 @@ pub data Enters (T : Table) (s : State) : Step → Entry → Type 0 where
   own-hash : (j p : ℕ) → Able T s j → p < T .periods → p < s .current j → Enters T s (SendHash j p) (Hash j p (boardBy T s j p))
   own-backing : (j : ℕ) → Able T s j → s .toBack j < s .current j → T .t ≤ weigh T (heardOwn T s j) → Enters T s (Back j) (Backing j (s .toBack j) (ownBoard T s j))
   board : (e : ℕ) → isBacking (entryAt (s .bag) e) ≡ true → T .t ≤ weigh T (backersAt s e) → Enters T s (Publish e) (boardNamed (s .bag) e)
-  false-hash : (j p B : ℕ) → Peer T j → Sheet T p B → T .honest j ≡ false → AllPosted T s B → Enters T s (FalseHash j p B) (Hash j p B)
-  false-backing : (j p B : ℕ) → Peer T j → Sheet T p B → T .honest j ≡ false → AllPosted T s B → Enters T s (FalseBacking j p B) (Backing j p B)
+  false-hash : (j p B : ℕ) → Peer T j → BoardIn T p B → T .honest j ≡ false → AllPosted T s B → Enters T s (FalseHash j p B) (Hash j p B)
+  false-backing : (j p B : ℕ) → Peer T j → BoardIn T p B → T .honest j ≡ false → AllPosted T s B → Enters T s (FalseBacking j p B) (Backing j p B)
 
 -- what is held but for the receipt shares
 abbrev pub sharesAside : State → State
