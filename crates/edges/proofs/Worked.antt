@@ -14,12 +14,12 @@ use Rattle.rules.specs.Form.{allZero, formed, select, ops, laterOps, read}
 use Rattle.rules.specs.Rules.{boardFrom, addRows, rule, answer, next, reply, leave}
 use Rattle.rules.specs.Ideal.{isThere, hasBoard, onBoard, mayReceive, mayReceipt, mayPublish, nowEnough, move, feed, ideal}
 use Rattle.rules.specs.Deed.{deed, deedOf}
-use Rattle.rules.specs.Run.{backingNamed, seenWith, runFrom, run}
+use Rattle.rules.specs.Run.{backingNamed, seenWith, runFrom, after, answersFrom}
 use Rattle.edges.specs.Worked.{WorkedRuns}
 use Rattle.edges.proofs.Premise.{meets}
 
 pub worked-runs : WorkedRuns
-unfolding first any every bit pack numberAt add1 add2 add3 add4 setAt weight clashing sameEntry isIn enter isFull boardsIn allZero formed select ops laterOps read boardFrom addRows rule answer next reply leave isThere hasBoard onBoard mayReceive mayReceipt mayPublish nowEnough move feed ideal deed deedOf backingNamed seenWith runFrom run
+unfolding first any every bit pack numberAt add1 add2 add3 add4 setAt weight clashing sameEntry isIn enter isFull boardsIn allZero formed select ops laterOps read boardFrom addRows rule answer next reply leave isThere hasBoard onBoard mayReceive mayReceipt mayPublish nowEnough move feed ideal deed deedOf backingNamed seenWith runFrom after answersFrom
 worked-runs = record {
   case-r = record { answered = refl; signed = refl; receipted = refl; published = refl };
   case-r-ideal = record { receipted = refl; published = refl; allowed = refl };

@@ -6,18 +6,11 @@ use mathlib.Core.Path.{_≡_}
 use lib.Dec.{eqb}
 use Rattle.rules.specs.Table.{Table, weigh}
 use Rattle.rules.specs.Bag.{boardsIn}
-use Rattle.rules.specs.State.{State, fresh}
-use Rattle.rules.specs.Form.{read}
-use Rattle.rules.specs.Rules.{reply, leave}
+use Rattle.rules.specs.State.{fresh}
 use Rattle.rules.specs.Ideal.{ideal}
-use Rattle.rules.specs.Run.{run}
+use Rattle.rules.specs.Run.{answersFrom, byRules, run}
 use Rattle.rules.specs.Demand3.{Premise, Safe}
 use Rattle.edges.specs.Cases.{Worked, calls, due, tableR, caseR, tableTwoFaced, twoFaced, tableLeft, leftPeriod, tableLiars, twoLiars, tableOdd, oddBytes}
-
--- the answers to calls
-abbrev pub answers : Table → State → List (List ℕ) → List ℕ
-answers T s [] = []
-answers T s (c ∷ later) = reply T s (read c) ∷ answers T (leave T s (read c)) later
 
 -- what f lists for each number below n, in order
 abbrev pub each : {A : Type 0} → ℕ → (ℕ → List A) → List A
@@ -35,7 +28,7 @@ signersIn T db = each (T .n) (λ i. each (T .periods) (λ p. each (T .items) (λ
 
 -- how a run ends by the rules: every call has its answer, and the databases, receipts and boards (period, number) are what a report lists
 pub record Ends (T : Table) (w : Worked) (signers : List (ℕ × ℕ × ℕ × ℕ)) (receipts boards : List (ℕ × ℕ)) : Type 0 where
-  pub answered : answers T fresh (calls w) ≡ due w
+  pub answered : answersFrom (byRules T) fresh (calls w) ≡ due w
   pub signed : signersIn T (run T (calls w) .engine .db) ≡ signers
   pub receipted : receiptsIn T (run T (calls w) .engine .receipted) ≡ receipts
   pub published : boardsIn (run T (calls w) .engine .bag) ≡ boards
