@@ -32,6 +32,6 @@ worked-runs = record {
   left-period-premise = meets 4 3 3 2 1 (omega arith) (omega arith);
   two-liars = record { answered = refl; signed = refl; receipted = refl; published = refl };
   two-liars-ideal = record { receipted = refl; published = refl; allowed = refl };
-  two-liars-unsafe = λ S. true-false (sym (S .allowed));
+  two-liars-unsafe = λ S. true-false (sym (S .now .allowed));
   odd-bytes = record { answered = refl; signed = refl; receipted = refl; published = refl };
 }

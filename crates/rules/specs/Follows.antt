@@ -9,8 +9,8 @@ use Rattle.rules.specs.Rules.{reply, leave}
 use Rattle.rules.specs.Run.{Engine}
 use Rattle.rules.specs.Valid.{Valid}
 
--- It starts with a ready store that holds the fresh state. What a ready store holds is valid; a call on it is answered as
--- the rules say, and leaves a ready store that holds what the rules say.
+-- It starts with a ready store that holds the fresh state. What a ready store holds is valid; a call on it is
+-- answered as the rules say, and leaves a ready store that holds what the rules say.
 pub record Follows (T : Table) {X : Type 0} (E : Engine X) (Ready : X → Type 0) : Type 0 where
   pub starts-ready : Ready (E .starts)
   pub starts-fresh : E .holds (E .starts) ≡ fresh
