@@ -1,11 +1,12 @@
--- The fields of a step and its thirteen bytes, as document 01 lists them: op, peer, other, period, item (also entry number), board.
+-- The fields of a step and its thirteen bytes, as document 01 lists them: op, peer, other, period, item (also entry
+-- number), board.
 use Prim.Native.Nat.{ℕ, _/_, _%_, _^_, _<_}
 use mathlib.Core.List.{List, [], _∷_}
 use mathlib.Core.Path.{_≡_}
 use Rattle.rules.specs.declared.Step.{Step}
 use Rattle.rules.specs.declared.Step.the-variants.{Post, Hand, Sign, Take, Share, Receipt, Close, Fetch, SendHash, Hear, Back, Publish, FalseSignature, FalseShare, FalseHash, FalseBacking, Down, Up}
 use Rattle.rules.specs.declared.Call.the-variants.{Formed}
 use Rattle.rules.specs.Form.{read}
 
 pub record Fields : Type 0 where
   pub op : ℕ
@@ -47,7 +48,8 @@ boardByte B i = B / 256 ^ i % 256
 abbrev pub write : Step → List ℕ
 write st =
     let f = fields st in
-    f .op ∷ f .peer ∷ f .other ∷ f .period ∷ f .item ∷ boardByte (f .board) 7 ∷ boardByte (f .board) 6 ∷ boardByte (f .board) 5 ∷ boardByte (f .board) 4
+    f .op ∷ f .peer ∷ f .other ∷ f .period ∷ f .item
+    ∷ boardByte (f .board) 7 ∷ boardByte (f .board) 6 ∷ boardByte (f .board) 5 ∷ boardByte (f .board) 4
     ∷ boardByte (f .board) 3 ∷ boardByte (f .board) 2 ∷ boardByte (f .board) 1 ∷ boardByte (f .board) 0 ∷ []
 
 -- a step that is written in its bytes is read from them
