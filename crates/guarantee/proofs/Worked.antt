@@ -14,7 +14,7 @@ use Rattle.base.specs.Sets.{add1, add2, add3, add4, setAt}
 use Rattle.base.specs.Weight.{weight}
 use Rattle.base.proofs.Below.{every-at}
 use Rattle.base.proofs.Truth.{and-l, and-r}
-use Rattle.header.specs.Header.{thresholdOf, honestCount, isHonest, leastThreshold, thresholdOk, fieldsOk, headerOk}
+use Rattle.header.specs.Header.{headOf, thresholdOf, honestCount, leastThreshold, thresholdOk, fieldsOk, headerOk}
 use Rattle.pairs.specs.Pairs.{endBefore, startsAtEnd, pairsFit, pairsOk}
 use Rattle.ballot.specs.Item.{readKind, readItem}
 use Rattle.ballot.specs.Table.{tablePairsOk, itemOk, itemsOk, differ, newAt, noTwins, refusal}
@@ -37,10 +37,10 @@ use Rattle.guarantee.proofs.Demand3.{bytes-follow}
 
 -- what a table of n peers is to have, as a test
 abbrev good : ℕ → Bool
-good n = eqb (refusal (barely n)) 0 && (eqb (honestCount (barely n)) (thresholdOf (barely n)) && clashIn (barely n) 0 1)
+good n = eqb (refusal (barely n)) 0 && (eqb (honestCount (headOf (barely n))) (thresholdOf (barely n)) && clashIn (barely n) 0 1)
 
 all-good : every 16 (λ k. good (k + 1)) ≡ true
-unfolding refusal headerOk fieldsOk thresholdOk leastThreshold isHonest tablePairsOk pairsOk pairsFit startsAtEnd endBefore
+unfolding refusal headerOk fieldsOk thresholdOk leastThreshold tablePairsOk pairsOk pairsFit startsAtEnd endBefore
     itemsOk itemOk noTwins newAt differ clashIn clash readItem readKind first every numberAt part sameBytes bit member weight
 all-good = refl
 
@@ -48,15 +48,15 @@ barely-met : (n : ℕ) → 1 ≤ n → n ≤ 16 → Barely n
 barely-met n l m =
     let ok = subst (λ (k : ℕ). good k ≡ true) {x = n - 1 + 1} {y = n} (omega arith) (every-at (λ k. good (k + 1)) 16 all-good (n - 1) (omega arith)) in
     let rest = and-r (eqb (refusal (barely n)) 0) _ ok in
-    let just = eqb-true (honestCount (barely n)) (thresholdOf (barely n)) (and-l _ (clashIn (barely n) 0 1) rest) in
+    let just = eqb-true (honestCount (headOf (barely n))) (thresholdOf (barely n)) (and-l _ (clashIn (barely n) 0 1) rest) in
     record {
-      meets = record { taken = eqb-true (refusal (barely n)) 0 (and-l _ (eqb (honestCount (barely n)) (thresholdOf (barely n)) && clashIn (barely n) 0 1) ok); honest = omega (arith, just) };
+      meets = record { taken = eqb-true (refusal (barely n)) 0 (and-l _ (eqb (honestCount (headOf (barely n))) (thresholdOf (barely n)) && clashIn (barely n) 0 1) ok); honest = omega (arith, just) };
       just-enough = just;
-      some-clash = and-r (eqb (honestCount (barely n)) (thresholdOf (barely n))) _ rest;
+      some-clash = and-r (eqb (honestCount (headOf (barely n))) (thresholdOf (barely n))) _ rest;
     }
 
 case-r-met : HonestEnough tables.caseR
-unfolding refusal headerOk fieldsOk thresholdOk leastThreshold isHonest tablePairsOk pairsOk pairsFit startsAtEnd endBefore
+unfolding refusal headerOk fieldsOk thresholdOk leastThreshold tablePairsOk pairsOk pairsFit startsAtEnd endBefore
     itemsOk itemOk noTwins newAt differ clashIn clash readItem readKind first every numberAt part sameBytes bit member weight
 case-r-met = record { taken = refl; honest = omega arith }
 

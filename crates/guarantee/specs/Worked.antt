@@ -3,7 +3,7 @@ use Prim.Native.Nat.{ℕ, _≤_}
 use mathlib.Core.Bool.{true}
 use mathlib.Core.List.{List, [], _∷_}
 use mathlib.Core.Path.{_≡_}
-use Rattle.header.specs.Header.{thresholdOf, honestCount}
+use Rattle.header.specs.Header.{headOf, thresholdOf, honestCount}
 use Rattle.clash.specs.Clash.{clashIn}
 use Rattle.engine.specs.Engine.{rulesTable}
 use Rattle.edges.specs.Tables.{twoVotes}
@@ -20,7 +20,7 @@ barely n = twoVotes n (leastThreshold n) (leastThreshold n)
 -- what such a table has: it meets the premise, exactly t peers are honest, and some items clash
 pub record Barely (n : ℕ) : Type 0 where
   pub meets : HonestEnough (barely n)
-  pub just-enough : honestCount (barely n) ≡ thresholdOf (barely n)
+  pub just-enough : honestCount (headOf (barely n)) ≡ thresholdOf (barely n)
   pub some-clash : clashIn (barely n) 0 1 ≡ true
 
 pub record BytesMeet : Type 0 where
