@@ -1,12 +1,7 @@
--- The fields of a step and its thirteen bytes, as document 01 lists them: op, peer, other, period, item (also entry
--- number), board.
-use Prim.Native.Nat.{ℕ, _/_, _%_, _^_, _<_}
-use mathlib.Core.List.{List, [], _∷_}
-use mathlib.Core.Path.{_≡_}
+-- The fields of a step, as document 01 lists them: op, peer, other, period, item (also entry number), board.
+use Prim.Native.Nat.{ℕ}
 use Rattle.rules.specs.declared.Step.{Step}
 use Rattle.rules.specs.declared.Step.the-variants.{Post, Hand, Sign, Take, Share, Receipt, Close, Fetch, SendHash, Hear, Back, Publish, FalseSignature, FalseShare, FalseHash, FalseBacking, Down, Up}
-use Rattle.rules.specs.declared.Call.the-variants.{Formed}
-use Rattle.rules.specs.Form.{read}
 
 pub record Fields : Type 0 where
   pub op : ℕ
@@ -39,19 +34,3 @@ fields (FalseHash j p B) = of 15 j 0 p 0 B
 fields (FalseBacking j p B) = of 16 j 0 p 0 B
 fields (Down j) = of 17 j 0 0 0 0
 fields (Up j) = of 18 j 0 0 0 0
-
--- byte i of a board, counted from its low end
-abbrev pub boardByte : ℕ → ℕ → ℕ
-boardByte B i = B / 256 ^ i % 256
-
--- the thirteen bytes of a step; the board's high byte stands first
-abbrev pub write : Step → List ℕ
-write st =
-    let f = fields st in
-    f .op ∷ f .peer ∷ f .other ∷ f .period ∷ f .item
-    ∷ boardByte (f .board) 7 ∷ boardByte (f .board) 6 ∷ boardByte (f .board) 5 ∷ boardByte (f .board) 4
-    ∷ boardByte (f .board) 3 ∷ boardByte (f .board) 2 ∷ boardByte (f .board) 1 ∷ boardByte (f .board) 0 ∷ []
-
--- a step that is written in its bytes is read from them
-pub record FormEdges : Type 0 where
-  pub written : (st : Step) → fields st .board < 256 ^ 8 → read (write st) ≡ Formed st
