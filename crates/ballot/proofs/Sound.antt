@@ -4,7 +4,7 @@ use native.Mathlib.Omega.{arith}
 use mathlib.Core.Bool.{true, false}
 use mathlib.Core.List.{List}
 use mathlib.Core.Logic.{_⊎_, inl, inr}
-use mathlib.Core.Path.{_≡_, refl, sym}
+use mathlib.Core.Path.{_≡_, sym}
 use lib.Dec.{ltb}
 use borrow.Author.Tests.{ltb-true, ltb-false, not-true, not-false}
 use Rattle.base.proofs.Truth.{split, either}
@@ -44,7 +44,7 @@ module _ (s : List ℕ) (ok : noTwins s ≡ true) where
 pub sound : (s : List ℕ) → refusal s ≡ 0 → Sound s
 unfolding refusal tablePairsOk
 sound s e =
-    let tests = passed (tableRefusals s) refl e in
+    let tests = passed (tableRefusals s) e in
     let header = not-false (headerOk s) (tests .0) in
     let pairs = not-false (tablePairsOk s) (tests .1 .0) in
     let items = not-false (itemsOk s) (tests .1 .1 .0) in

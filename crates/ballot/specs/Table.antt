@@ -5,7 +5,7 @@ use mathlib.Core.List.{List, [], _∷_}
 use lib.Dec.{eqb}
 use Rattle.base.specs.Bytes.{sameBytes}
 use Rattle.base.specs.Below.{every}
-use Rattle.base.specs.Refusals.{Refusals, first}
+use Rattle.base.specs.Refusals.{Refusals, header, pairs, item, twin, numbered, first}
 use Rattle.header.specs.Header.{headerSize, itemsOf, headerOk}
 use Rattle.pairs.specs.Pairs.{textOf, pairsOk}
 use Rattle.ballot.specs.Item.{readItem, readingNumber}
@@ -38,10 +38,15 @@ newAt s j = every j (differ s j)
 unfoldable pub noTwins : List ℕ → Bool
 noTwins s = every (itemsOf s) (newAt s)
 
--- the table's refusals, in the order in which they are judged: 1 header, 2 pairs, 3 item, 4 twin
+-- the table's refusals, in the order in which they are judged
 abbrev pub tableRefusals : List ℕ → Refusals
-tableRefusals s = (1, not (headerOk s)) ∷ (2, not (tablePairsOk s)) ∷ (3, not (itemsOk s)) ∷ (4, not (noTwins s)) ∷ []
+tableRefusals s =
+    (header, not (headerOk s))
+    ∷ (pairs, not (tablePairsOk s))
+    ∷ (item, not (itemsOk s))
+    ∷ (twin, not (noTwins s))
+    ∷ []
 
 -- the first of them that applies, and 0 where none does
 unfoldable pub refusal : List ℕ → ℕ
-refusal s = first (tableRefusals s)
+refusal s = first (numbered (tableRefusals s))

@@ -8,7 +8,8 @@ use Rattle.rules.specs.declared.Step.{Step}
 use Rattle.rules.specs.declared.Step.the-variants.{Post, Hand, Sign, Take, Share, Receipt, Close, Fetch, SendHash, Hear, Back, Publish, FalseSignature, FalseShare, FalseHash, FalseBacking, Down, Up}
 use Rattle.rules.specs.declared.Call.the-variants.{Formed}
 use Rattle.rules.specs.Form.{allZero, formed, select, ops, laterOps, read}
-use Rattle.edges.specs.Fields.{fields, boardByte, write, FormEdges}
+use Rattle.rules.specs.Fields.{fields}
+use Rattle.edges.specs.Fields.{boardByte, write, FormEdges}
 
 -- what stands above byte i of a board, and that byte
 more : (B i v : ℕ) → v ≡ B / 256 ^ suc i → v * 256 + boardByte B i ≡ B / 256 ^ i

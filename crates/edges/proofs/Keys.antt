@@ -3,7 +3,7 @@ use Prim.Native.Nat.{ℕ}
 use mathlib.Core.Bool.{Bool, true, false, cond}
 use mathlib.Core.Path.{_≡_, refl, ap}
 use lib.Dec.{eqb}
-use Rattle.base.specs.Refusals.{first}
+use Rattle.base.specs.Refusals.{Refusals, numbered, first}
 use Rattle.rules.specs.declared.Step.{Step}
 use Rattle.rules.specs.declared.Step.the-variants.{Post, Hand, Sign, Take, Share, Receipt, Close, Fetch, SendHash, Hear, Back, Publish, FalseSignature, FalseShare, FalseHash, FalseBacking, Down, Up}
 use Rattle.rules.specs.Table.{Table}
@@ -45,4 +45,4 @@ module _ (T : Table) (s : State) (shared : ℕ → ℕ → ℕ → Bool) where
   unfolding answer next
   shares-unseen st n =
       let r = same-rule st n in
-      (ap first (r .0), (rw (r .0) (both (eqb (first (rule T s st .refusals)) 0) (rule T u st .effect) u (rule T s st .effect) s (r .1) refl)))
+      (ap (λ (l : Refusals). first (numbered l)) (r .0), (rw (r .0) (both (eqb (first (numbered (rule T s st .refusals))) 0) (rule T u st .effect) u (rule T s st .effect) s (r .1) refl)))

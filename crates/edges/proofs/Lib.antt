@@ -10,5 +10,4 @@ pub mod Keys
 pub mod Left
 pub mod Exact
 pub mod Fields
-pub mod ByRow
 pub mod Edges

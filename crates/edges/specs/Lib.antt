@@ -7,5 +7,4 @@ pub mod Premise
 pub mod Steps
 pub mod Exact
 pub mod Fields
-pub mod ByRow
 pub mod Edges

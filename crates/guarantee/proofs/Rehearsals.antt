@@ -6,7 +6,7 @@ use mathlib.Core.Path.{_≡_, sym, ap, ap₂, _∙_}
 use Rattle.header.specs.Header.{headOf, thresholdOf, honestCount}
 use Rattle.rules.specs.Form.{read}
 use Rattle.rules.specs.Ideal.{Fed}
-use Rattle.rules.specs.Run.{World, seenWith, runFrom}
+use Rattle.rules.specs.Run.{World, seenWith, runFrom, after}
 use Rattle.state.specs.Tab.{tab}
 use Rattle.state.specs.Contents.{contents}
 use Rattle.state.proofs.Tab.{tab-ext}
@@ -15,7 +15,7 @@ use Rattle.engine.specs.Engine.{stepAnswer, stepBytes, freshState}
 use Rattle.rehearsal.specs.Input.{tableIn, inputRefusal, stepCount, callAt}
 use Rattle.rehearsal.specs.Rehearsal.{stateAt, lastState}
 use Rattle.rehearsal.proofs.Taking.{taken}
-use Rattle.guarantee.specs.Demand3.{afterCalls}
+use Rattle.guarantee.specs.Demand3.{byBytes, afterCalls}
 use Rattle.guarantee.specs.Rehearsed.{callsIn, ShownSafe}
 use Rattle.guarantee.proofs.Demand3.{demand-3-on-bytes}
 
@@ -24,7 +24,7 @@ module _ (input : List ℕ) where
   table = tableIn input
 
   abbrev run : List ℕ → List Fed → List (List ℕ) → World
-  run = runFrom (λ s. stateOf (contents s)) (stepAnswer table) (stepBytes table)
+  run = runFrom (byBytes table)
 
   -- n steps from step k on
   leads : (n k : ℕ) (seen : List Fed) → run (stateAt input k) seen (tab n (λ i. callAt input (i + k))) .engine ≡ stateOf (contents (stateAt input (n + k)))
@@ -40,7 +40,7 @@ module _ (input : List ℕ) where
       ∙ ap (λ (i : ℕ). stateOf (contents (stateAt input i))) {x = n + suc k} {y = suc n + k} (omega arith)
 
   shown : stateOf (contents (lastState input)) ≡ afterCalls table (callsIn input) .engine
-  unfolding lastState afterCalls stateAt
+  unfolding lastState after stateAt
   shown =
       sym (ap (λ (calls : List (List ℕ)). run freshState [] calls .engine) (tab-ext (stepCount input) (callAt input) (λ i. callAt input (i + 0)) (λ i l. ap (callAt input) {x = i} {y = i + 0} (omega arith)))
       ∙ leads (stepCount input) 0 []

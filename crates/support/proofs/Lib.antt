@@ -1,4 +1,4 @@
 pub mod Full
 pub mod Named
 pub mod Gathered
-pub mod Sheets
+pub mod BoardNumbers

@@ -1,5 +1,5 @@
 -- By `board-found`.
-use Rattle.support.proofs.Sheets.{board-found}
+use Rattle.support.proofs.BoardNumbers.{board-found}
 use borrow.Author.Needs.{needs}
 use Rattle.support.proofs.boards.board_by.Statement.{statement}
 use Rattle.support.proofs.boards.board_by.Tie as tie

@@ -1,5 +1,5 @@
 -- By `unposted-items`.
-use Rattle.support.proofs.Sheets.{unposted-items}
+use Rattle.support.proofs.BoardNumbers.{unposted-items}
 use borrow.Author.Needs.{needs}
 use Rattle.support.proofs.boards.unposted.Statement.{statement}
 use Rattle.support.proofs.boards.unposted.Tie as tie

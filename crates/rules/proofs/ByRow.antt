@@ -1,15 +1,15 @@
 -- The rules refuse as document 01's table does: for each op the two rows of tests compute to the same.
 use mathlib.Core.Path.{_≡_, refl}
-use Rattle.base.specs.Refusals.{first}
+use Rattle.base.specs.Refusals.{numbered, first}
 use Rattle.rules.specs.declared.Step.{Step}
 use Rattle.rules.specs.declared.Step.the-variants.{Post, Hand, Sign, Take, Share, Receipt, Close, Fetch, SendHash, Hear, Back, Publish, FalseSignature, FalseShare, FalseHash, FalseBacking, Down, Up}
 use Rattle.rules.specs.Table.{Table}
 use Rattle.rules.specs.State.{State}
 use Rattle.rules.specs.Rules.{rule, answer}
-use Rattle.edges.specs.Fields.{fields}
-use Rattle.edges.specs.ByRow.{byRow, RowEdges}
+use Rattle.rules.specs.Fields.{fields}
+use Rattle.rules.specs.ByRow.{byRow, RowEdges}
 
-by-row : (T : Table) (s : State) (st : Step) → answer T s st ≡ first (byRow T s (fields st))
+pub by-row : (T : Table) (s : State) (st : Step) → answer T s st ≡ first (numbered (byRow T s (fields st)))
 unfolding first rule answer byRow
 by-row T s (Post x) = refl
 by-row T s (Hand j x) = refl
