@@ -26,7 +26,7 @@ fn worth(j: u8) -> u64
 fn ballot_at(table: &[u8], k: u8) -> u32
     ensures { λ r. ⌜ r ≡ ballotAt (now (table .entry)) k ⌝ }
 {
-    ballot::item::ballot(ballot::item_text(table, k))
+    ballot::item::ballot(ballot::reader::item_at(table, k))
 }
 
 // The ballot numbers of the items that a mask has a bit for.
