@@ -29,7 +29,8 @@ rows-made table rows i M l = filled-all 0 64 (clashMask table) i rows l M
 pub all-rows : {table rows : List ℕ} → rows ≡ clashRows table → RowsOf table rows
 unfolding clashRows
 all-rows {table} e =
-    record { row = λ k l. ap (λ r. getD r k 0) e ∙ getD-tab 64 (clashMask table) k 0 (omega (arith, ap length e, length-tab 64 (clashMask table))) }
+    let long = ap length e ∙ length-tab 64 (clashMask table) in
+    record { row = λ k l. ap (λ r. getD r k 0) e ∙ getD-tab 64 (clashMask table) k 0 (omega (arith, long)) }
 
 pub row-read : {table rows : List ℕ} {k : ℕ} → RowsOf table rows → k < length rows → getD rows k 0 ≡ clashMask table k
 row-read R l = R .row _ l

@@ -6,7 +6,7 @@ use Rattle.rules.specs.declared.Step.the-variants.{Post, Hand, Sign, Take, Shar
 use Rattle.rules.specs.Table.{Table}
 use Rattle.rules.specs.State.{State}
 use Rattle.rules.specs.Rules.{rule, answer}
-use Rattle.edges.specs.Fields.{fields}
+use Rattle.form.specs.Written.{fields}
 use Rattle.edges.specs.ByRow.{byRow, RowEdges}
 
 by-row : (T : Table) (s : State) (st : Step) → answer T s st ≡ first (byRow T s (fields st))

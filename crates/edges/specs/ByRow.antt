@@ -11,7 +11,7 @@ use Rattle.rules.specs.Table.{Table, quorum, clashing}
 use Rattle.rules.specs.Bag.{isHash, isBacking, entryAt, periodOf, boardOf, boardNamed, isFull}
 use Rattle.rules.specs.State.{State}
 use Rattle.rules.specs.Rules.{answer, boardBy, backers, noPeer, noPeriod, noItem, noBoard, noneOpen, notClosed, unposted}
-use Rattle.edges.specs.Fields.{Fields, fields}
+use Rattle.form.specs.Written.{Fields, fields}
 
 abbrev pub oneOf : ℕ → List ℕ → Bool
 oneOf op [] = false

@@ -1,9 +1,11 @@
--- The fields of a step and its thirteen bytes, as document 01 lists them: op, peer, other, period, item (also entry number), board.
+-- A step's fields and the thirteen bytes that it is written as, as document 01 lists them: op, peer, other, period,
+-- item (also entry number), and the board in eight bytes, high byte first.
 use Prim.Native.Nat.{ℕ, _/_, _%_, _^_, _<_}
 use mathlib.Core.List.{List, [], _∷_}
 use mathlib.Core.Path.{_≡_}
 use Rattle.rules.specs.declared.Step.{Step}
-use Rattle.rules.specs.declared.Step.the-variants.{Post, Hand, Sign, Take, Share, Receipt, Close, Fetch, SendHash, Hear, Back, Publish, FalseSignature, FalseShare, FalseHash, FalseBacking, Down, Up}
+use Rattle.rules.specs.declared.Step.the-variants.{Post, Hand, Sign, Take, Share, Receipt, Close, Fetch, SendHash}
+use Rattle.rules.specs.declared.Step.the-variants.{Hear, Back, Publish, FalseSignature, FalseShare, FalseHash, FalseBacking, Down, Up}
 use Rattle.rules.specs.declared.Call.the-variants.{Formed}
 use Rattle.rules.specs.Form.{read}
 
@@ -18,7 +20,7 @@ pub record Fields : Type 0 where
 abbrev pub of : ℕ → ℕ → ℕ → ℕ → ℕ → ℕ → Fields
 of op j k p x B = record { op = op; peer = j; other = k; period = p; item = x; board = B }
 
--- fields not named after an op are 0
+-- the fields of a step; those not named after its op are 0
 abbrev pub fields : Step → Fields
 fields (Post x) = of 1 0 0 0 x 0
 fields (Hand j x) = of 2 j 0 0 x 0
@@ -43,13 +45,18 @@ fields (Up j) = of 18 j 0 0 0 0
 abbrev pub boardByte : ℕ → ℕ → ℕ
 boardByte B i = B / 256 ^ i % 256
 
--- the thirteen bytes of a step; the board's high byte stands first
-abbrev pub write : Step → List ℕ
-write st =
-    let f = fields st in
-    f .op ∷ f .peer ∷ f .other ∷ f .period ∷ f .item ∷ boardByte (f .board) 7 ∷ boardByte (f .board) 6 ∷ boardByte (f .board) 5 ∷ boardByte (f .board) 4
+-- the thirteen bytes of these fields
+abbrev pub bytesOf : Fields → List ℕ
+bytesOf f =
+    f .op ∷ f .peer ∷ f .other ∷ f .period ∷ f .item
+    ∷ boardByte (f .board) 7 ∷ boardByte (f .board) 6 ∷ boardByte (f .board) 5 ∷ boardByte (f .board) 4
     ∷ boardByte (f .board) 3 ∷ boardByte (f .board) 2 ∷ boardByte (f .board) 1 ∷ boardByte (f .board) 0 ∷ []
 
--- a step that is written in its bytes is read from them
-pub record FormEdges : Type 0 where
-  pub written : (st : Step) → fields st .board < 256 ^ 8 → read (write st) ≡ Formed st
+-- the thirteen bytes that a step is written as
+abbrev pub written : Step → List ℕ
+written st = bytesOf (fields st)
+
+-- bytes say a step exactly if they are those that it is written as; a board is a number of 64 bits
+pub record BothWays (s : List ℕ) (st : Step) : Type 0 where
+  pub reads : s ≡ written st → fields st .board < 2 ^ 64 → read s ≡ Formed st
+  pub writes : read s ≡ Formed st → (s ≡ written st) × (fields st .board < 2 ^ 64)
