@@ -1,8 +1,8 @@
 -- The whole ballot table: its pairs, its items, and the first refusal that applies.
 use Prim.Native.Nat.{ℕ}
-use mathlib.Core.Bool.{Bool, not}
+use mathlib.Core.Bool.{Bool, not, cond}
 use mathlib.Core.List.{List, [], _∷_}
-use lib.Dec.{eqb}
+use lib.Dec.{eqb, ltb}
 use Rattle.base.specs.Bytes.{sameBytes}
 use Rattle.base.specs.Below.{every}
 use Rattle.base.specs.Refusals.{Refusals, header, pairs, item, twin, numbered, first}
@@ -14,9 +14,13 @@ use Rattle.ballot.specs.Item.{readItem, readingNumber}
 unfoldable pub tablePairsOk : List ℕ → Bool
 tablePairsOk s = pairsOk s (headerSize s) (itemsOf s)
 
--- the text of item k: the part of the table that its pair marks out
+-- the text of item k of the first `items`: the part of the table that its pair marks out; none past them
+unfoldable pub itemBelow : List ℕ → ℕ → ℕ → List ℕ
+itemBelow s items k = cond (ltb k items) (textOf s (headerSize s) k) []
+
+-- the text of item k of the table
 abbrev pub itemText : List ℕ → ℕ → List ℕ
-itemText s k = textOf s (headerSize s) k
+itemText s k = itemBelow s (itemsOf s) k
 
 -- the text of item k reads as an item
 unfoldable pub itemOk : List ℕ → ℕ → Bool

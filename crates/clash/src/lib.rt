@@ -86,5 +86,8 @@ pub fn clashes(a: &[u8], b: &[u8]) -> bool
 pub fn clash_in(table: &[u8], i: u8, j: u8) -> bool
     ensures { λ r. ⌜ r ≡ clashIn (now (table .entry)) i j ⌝ }
 {
-    clashes(ballot::item_text(table, i), ballot::item_text(table, j))
+    clashes(
+        ballot::reader::item_at(table, i),
+        ballot::reader::item_at(table, j),
+    )
 }

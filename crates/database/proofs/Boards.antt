@@ -14,7 +14,7 @@ use Rattle.state.specs.Layout.{items}
 use Rattle.state.specs.Contents.{Contents}
 use Rattle.sets.specs.Sets.{signersOf}
 use Rattle.database.specs.Database.{rowOf, reaches, peerBoard}
-use Rattle.state.proofs.Tab.{getD-tab}
+use Rattle.base.proofs.Tab.{getD-tab}
 use Rattle.sets.proofs.Words.{signers-counted}
 
 -- an item of a row, whose set is counted

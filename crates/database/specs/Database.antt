@@ -8,7 +8,7 @@ use Rattle.base.specs.Bits.{pack}
 use Rattle.rules.specs.declared.Signers.{Signers}
 use Rattle.state.specs.declared.Fact.the-variants.{Known}
 use Rattle.state.specs.Layout.{periods, items}
-use Rattle.state.specs.Tab.{tab}
+use Rattle.base.specs.Tab.{tab}
 use Rattle.state.specs.Contents.{Contents, adding}
 use Rattle.sets.specs.Sets.{signersOf, signerCount, inSet, knownTo}
 

@@ -7,9 +7,9 @@ use Rattle.header.specs.Header.{headOf, thresholdOf, honestCount}
 use Rattle.rules.specs.Form.{read}
 use Rattle.rules.specs.Ideal.{Fed}
 use Rattle.rules.specs.Run.{World, seenWith, runFrom, after}
-use Rattle.state.specs.Tab.{tab}
+use Rattle.base.specs.Tab.{tab}
 use Rattle.state.specs.Contents.{contents}
-use Rattle.state.proofs.Tab.{tab-ext}
+use Rattle.base.proofs.Tab.{tab-ext}
 use Rattle.view.specs.View.{stateOf}
 use Rattle.engine.specs.Engine.{stepAnswer, stepBytes, freshState}
 use Rattle.rehearsal.specs.Input.{tableIn, inputRefusal, stepCount, callAt}

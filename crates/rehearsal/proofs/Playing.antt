@@ -6,7 +6,8 @@ use mathlib.Core.Path.{_≡_, ap, subst, _∙_}
 use lib.ListN.{length, replicate}
 use borrow.Author.Tests.{ne-eqb}
 use Rattle.header.specs.Header.{headOf, peersOf, thresholdOf, honestCount}
-use Rattle.clash.specs.Clash.{RowsOf}
+use Rattle.clash.specs.Clash.{clashRows}
+use Rattle.clash.proofs.Made.{all-rows}
 use Rattle.ballot.specs.Table.{refusal}
 use Rattle.state.specs.Layout.{size}
 use Rattle.state.specs.Contents.{contents, Canon}
@@ -26,8 +27,10 @@ pub cleared : (input t : List ℕ) (n : ℕ) → n ≡ size → t ≡ replicate 
 unfolding stateAt freshState
 cleared input t n long zeros = zeros ∙ ap (λ (k : ℕ). replicate k 0) long
 
-pub made : {input table : List ℕ} {h : Head} {rows : List ℕ} → Taken input → table ≡ tableIn input → h ≡ headOf table → RowsOf table rows → Made input table h rows
-made T cut head clashes = record { taken = T; cut = cut; prepared = record { taken = ap refusal cut ∙ T .table; head = head; clashes = clashes } }
+pub made : {input table : List ℕ} {h : Head} {rows : List ℕ} → Taken input → table ≡ tableIn input → h ≡ headOf table → rows ≡ clashRows table
+    → Made input table h rows
+made T cut head rows =
+    record { taken = T; cut = cut; prepared = record { taken = ap refusal cut ∙ T .table; head = head; clashes = all-rows rows } }
 
 -- the steps were run
 module _ {input table : List ℕ} {h : Head} {rows : List ℕ} (M : Made input table h rows) {a b : ℕ} {s mid more : List ℕ} (ran : Ran input (stepCount input) s mid a more b) where

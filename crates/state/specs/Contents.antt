@@ -10,7 +10,7 @@ use Rattle.bits.specs.Number.{num}
 use Rattle.rules.specs.declared.Entry.{Entry}
 use Rattle.state.specs.declared.Fact.{Fact}
 use Rattle.state.specs.declared.Number.{Number}
-use Rattle.state.specs.Tab.{tab}
+use Rattle.base.specs.Tab.{tab}
 use Rattle.state.specs.Layout.{entries, countAt, entryStart, size, signerIn, periodIn, boardIn, countBytes, itemBytes}
 use Rattle.state.specs.Facts.{sameFact, inRange, isPeer}
 use Rattle.state.specs.Places.{place}
