@@ -3,6 +3,7 @@ use Prim.Native.Nat.{ℕ, _≤_}
 use mathlib.Core.List.{List, [], _∷_}
 use mathlib.Core.Path.{_≡_, refl, sym, ap, ap₂, subst, fun-ext, _∙_}
 use Rattle.header.specs.Header.{headOf, thresholdOf, honestCount}
+use Rattle.header.specs.Quorum.{weightOf}
 use Rattle.ballot.specs.Table.{refusal}
 use Rattle.clash.proofs.Relation.{clash-in-sym, clash-in-self}
 use Rattle.ballot.proofs.Sound.{sound}
@@ -43,6 +44,7 @@ module _ (table : List ℕ) (fit : refusal table ≡ 0) where
   as-ruled calls = follows calls freshState [] (fresh-ready (headOf table) (room-of table (sym fit) refl)) ∙ ap (λ (s : State). ruled T s [] calls) fresh-state
 
   premise : thresholdOf table ≤ honestCount (headOf table) → Premise T
+  unfolding weightOf
   premise enough = counted T refl (sound table fit .threshold-rule) enough (clash-in-sym table) (clash-in-self table)
 
 pub demand-3-on-bytes : (table : List ℕ) → HonestEnough table → AlwaysSafe table
