@@ -3,5 +3,4 @@ mod Below
 pub mod Number
 pub mod Joined
 pub mod Loops
-pub mod Count
 pub mod Zeros

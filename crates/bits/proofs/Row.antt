@@ -1,7 +1,6 @@
 -- Laws of the row: a bit that is set is set, and every other bit and byte is as it was.
 use Prim.Native.Nat.{ℕ, _*_, _/_, _%_, _^_, _<_}
 use native.Mathlib.Decide.{ℕ-discrete, decLt}
-use native.Mathlib.Nat.{one-mul, mod-eq-of-lt}
 use native.Mathlib.Omega.{arith}
 use mathlib.Core.Bool.{Bool, _||_, or-comm}
 use mathlib.Core.List.{List}
@@ -15,6 +14,7 @@ use borrow.Author.Tests.{eq-eqb, ne-eqb, eqb-true}
 use Rattle.base.specs.Bits.{bit}
 use Rattle.base.specs.Bytes.{byteAt}
 use Rattle.base.proofs.Bits.{bit-or, bit-pow}
+use Rattle.base.proofs.Masks.{shifted}
 use Rattle.base.proofs.Truth.{iff}
 use Rattle.bits.specs.Row.{bitAt, putBit, Bytes}
 
@@ -72,11 +72,7 @@ pub bytes-put : (s : List ℕ) (a : ℕ) → Bytes s → Bytes (putBit s a)
 unfolding putBit
 bytes-put s a h = bytes-set s (a / 8) _ h (or-lt 8 (byteAt s (a / 8)) (2 ^ (a % 8)) (h (a / 8)) (pow-lt {j = 8} (omega arith)))
 
--- the machine's shift of 1 by k at w bits
-pub shl-one : (w k : ℕ) → k < w → (1 * 2 ^ k) % 2 ^ w ≡ 2 ^ k
-shl-one w k h = rw (one-mul (2 ^ k)) (mod-eq-of-lt (pow-lt h))
-
 -- a byte joined with the machine's shift of 1
 pub is-put : (s : List ℕ) (a w : ℕ) → w ≡ (1 * 2 ^ (a % 8)) % 2 ^ 8 → set s (a / 8) (bitOr (byteAt s (a / 8)) w) ≡ putBit s a
 unfolding putBit
-is-put s a w e = rw (e, shl-one 8 (a % 8) (omega arith))
+is-put s a w e = rw (e, shifted 8 (a % 8) (omega arith))

@@ -12,7 +12,7 @@ use borrow.Author.Tests.{eq-eqb, ne-eqb, ltb-true, lt-ltb, le-ltb}
 use Rattle.base.specs.Bits.{bit}
 use Rattle.base.proofs.Bits.{bit-pack}
 use Rattle.base.proofs.Truth.{either, iff, is-false, split, and-l}
-use Rattle.rules.specs.declared.Signers.{Signers}
+use Rattle.header.specs.declared.Signers.{Signers}
 use Rattle.state.specs.declared.Fact.{Fact}
 use Rattle.state.specs.declared.Fact.the-variants.{Posted, Signed, Shared, Receipted, Held, Known, Heard}
 use Rattle.state.specs.Layout.{peers, items}

@@ -2,15 +2,17 @@
 use Prim.Native.Nat.{ℕ}
 use mathlib.Core.Bool.{Bool, _&&_}
 use mathlib.Core.List.{List}
-use lib.Dec.{ltb, leb}
+use lib.Dec.{ltb}
 use lib.ListN.{getD}
 use Rattle.base.specs.Bits.{pack}
-use Rattle.rules.specs.declared.Signers.{Signers}
+use Rattle.header.specs.declared.Head.{Head}
+use Rattle.header.specs.declared.Signers.{Signers}
+use Rattle.header.specs.Quorum.{reaches}
 use Rattle.state.specs.declared.Fact.the-variants.{Known}
 use Rattle.state.specs.Layout.{periods, items}
 use Rattle.base.specs.Tab.{tab}
 use Rattle.state.specs.Contents.{Contents, adding}
-use Rattle.sets.specs.Sets.{signersOf, signerCount, inSet, knownTo}
+use Rattle.sets.specs.Sets.{signersOf, inSet, knownTo}
 
 -- the signer sets of one period, by item
 unfoldable pub rowOf : Contents → ℕ → ℕ → List Signers
@@ -28,10 +30,10 @@ onRow sets n y k = ltb y n && inSet (getD sets y (record { 0 = 0 }) .0) k
 unfoldable pub fetched : ℕ → ℕ → ℕ → Contents → Contents
 fetched j other p c = adding (knownTo j p (λ i k. c .has (Known other p i k))) c
 
--- peer j's database has at least t signers on item i in period p
-unfoldable pub reaches : Contents → ℕ → ℕ → ℕ → ℕ → Bool
-reaches c j p t i = leb t (signerCount c j p i)
+-- the signers of item i in peer j's database of period p reach t
+unfoldable pub onBoard : Head → Contents → ℕ → ℕ → ℕ → Bool
+onBoard h c j p i = reaches h (signersOf c j p i .0)
 
--- peer j's board of period p: of the first m items those with at least t signers, as a number
-unfoldable pub peerBoard : Contents → ℕ → ℕ → ℕ → ℕ → ℕ
-peerBoard c j p m t = pack m (reaches c j p t)
+-- peer j's board of period p, as a number
+unfoldable pub peerBoard : Head → Contents → ℕ → ℕ → ℕ
+peerBoard h c j p = pack (h .items) (onBoard h c j p)

@@ -1,16 +1,16 @@
 // One peer's database: its signer sets by period and item, another's added to them, and the board of a period.
-// It uses sets to read and to add, and state for what the bytes say; it knows no table and no step.
+// It uses sets to read and to add, and state for what the bytes say; of the table it knows the header, and it knows no step.
 ghost use mathlib.Core.Path.{_≡_};
 ghost use Prim.Native.Nat.{_+_, _*_, _^_, _<_, _≤_};
-ghost use lib.Count.{ones as onesIn};
-ghost use lib.Dec.{leb};
 ghost use Rattle.base.specs.Bits.{digit};
 ghost use Rattle.state.specs.Layout.{items};
 ghost use Rattle.state.specs.Facts.{Row};
 ghost use Rattle.state.specs.Contents.{contents, Canon, Holds, adding};
 ghost use Rattle.sets.specs.Sets.{knownTo};
 ghost use Rattle.database.specs.Database.{rowOf, databaseOf, onRow, fetched, peerBoard};
-use rules::Signers;
+use header::Head;
+use header::Signers;
+use header::quorum::signers_reach;
 use sets::add_signers;
 use sets::signers_of;
 use state::layout;
@@ -64,13 +64,6 @@ pub fn fetch(s: &mut [u8], j: u8, other: u8, p: u8)
     add_row(s, j, p, sets);
 }
 
-// Whether t peers are in the set.
-fn has_signers(set: Signers, t: u8) -> bool
-    ensures { λ r. ⌜ r ≡ leb t (onesIn (set .0)) ⌝ }
-{
-    t as u32 <= u32::count_ones(set.0 as u32)
-}
-
 // A board of items below i, and item i if told so.
 fn with_item(b: u64, i: u8, yes: bool) -> u64
     requires { ⌜ (b < 2 ^ i) × (i < items) ⌝ }
@@ -79,16 +72,17 @@ fn with_item(b: u64, i: u8, yes: bool) -> u64
     if yes { b + (1 << i) } else { b }
 }
 
-// Peer j's board of period p: of the first m items those with at least t signers.
-pub fn board_of(s: &[u8], j: u8, p: u8, m: u8, t: u8) -> u64
-    requires { ⌜ Canon (now s) × (m ≤ items) ⌝ }
-    ensures { λ r. ⌜ r ≡ peerBoard (contents (now (s .entry))) j p m t ⌝ }
+// Peer j's board of period p: the items whose signers reach t.
+pub fn board_of(s: &[u8], h: Head, j: u8, p: u8) -> u64
+    requires { ⌜ Canon (now s) × (h .items ≤ items) ⌝ }
+    ensures { λ r. ⌜ r ≡ peerBoard h (contents (now (s .entry))) j p ⌝ }
 {
     let sets = row(s, j, p);
+    let m = h.items;
     let mut b: u64 = 0;
     let mut i: u8 = 0;
     while i < m {
-        b = with_item(b, i, has_signers(sets[i as usize], t));
+        b = with_item(b, i, signers_reach(h, sets[i as usize]));
         i += 1;
     }
     b

@@ -3,6 +3,7 @@ use Prim.Native.Nat.{ℕ, _≤_}
 use mathlib.Core.List.{List}
 use mathlib.Core.Path.{_≡_, refl, sym}
 use Rattle.header.specs.Header.{headOf, thresholdOf, honestCount}
+use Rattle.header.specs.Quorum.{weightOf}
 use Rattle.ballot.specs.Table.{refusal}
 use Rattle.clash.specs.Clash.{clashIn}
 use Rattle.clash.proofs.Relation.{clash-in-sym, clash-in-self}
@@ -30,6 +31,7 @@ module _ (table : List ℕ) (fit : refusal table ≡ 0) where
   }
 
   premise : thresholdOf table ≤ honestCount (headOf table) → Premise (rulesTable table)
+  unfolding weightOf
   premise enough = counted (rulesTable table) refl (sound table fit .threshold-rule) enough (clash-in-sym table) (clash-in-self table)
 
 pub demand-3-on-bytes : (table : List ℕ) → HonestEnough table → AlwaysSafe table

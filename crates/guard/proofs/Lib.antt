@@ -1,3 +1,3 @@
 pub mod Tests
-pub mod Counts
+pub mod Few
 pub mod Rows

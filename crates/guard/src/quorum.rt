@@ -8,23 +8,18 @@ ghost use Rattle.state.specs.Contents.{contents};
 ghost use Rattle.view.specs.View.{noClash, tableOf};
 ghost use Rattle.view.specs.Ready.{Ready};
 use header::Head;
-use sets::sharer_count;
-use sets::signer_count;
+use header::quorum::sharers_reach;
+use header::quorum::signers_reach;
+use sets::sharers_of;
+use sets::signers_of;
 use state::numbers::current_of;
-
-fn wide(x: u8) -> u32
-    ensures { λ r. ⌜ r ≡ x ⌝ }
-{
-    x as u32
-}
 
 // Peer j's database has fewer than t signers on item x in its open period.
 pub fn few_signers(s: &[u8], h: Head, j: u8, x: u8) -> bool
     requires { ⌜ Ready h (now s) ⌝ }
     ensures { λ r. ⌜ r ≡ not (quorum (tableOf h noClash) (λ k. contents (now (s .entry)) .has (Known j (contents (now (s .entry)) .number (CurrentOf j)) x k))) ⌝ }
 {
-    let count = signer_count(s, j, current_of(s, j), x);
-    count < wide(h.t)
+    !signers_reach(h, signers_of(s, j, current_of(s, j), x))
 }
 
 // Fewer than t receipt shares on item x in period p are outside.
@@ -32,6 +27,5 @@ pub fn few_sharers(s: &[u8], h: Head, p: u8, x: u8) -> bool
     requires { ⌜ Ready h (now s) ⌝ }
     ensures { λ r. ⌜ r ≡ not (quorum (tableOf h noClash) (λ k. contents (now (s .entry)) .has (Shared k p x))) ⌝ }
 {
-    let count = sharer_count(s, p, x);
-    count < wide(h.t)
+    !sharers_reach(h, sharers_of(s, p, x))
 }

@@ -1,3 +1,4 @@
 pub mod Fields
 pub mod TwoThirds
 pub mod Ranges
+pub mod Reach

@@ -1,1 +1,2 @@
 pub mod Header
+pub mod Quorum

@@ -1,4 +1,4 @@
-// The ballot table's header: its fields, the struct of them that is read once, and whether each is in range.
+// The ballot table's header: its fields, the struct of them that is read once, whether each is in range, and which sets of peers reach its threshold.
 // It uses the crate base and no other.
 ghost use mathlib.Core.Path.{_≡_};
 ghost use Prim.Native.Nat.{_≤_};
@@ -6,6 +6,15 @@ ghost use Rattle.header.specs.Header.{headerSize, fieldOf, peersOf, thre
 ghost use Rattle.header.specs.Header.{headOf, isHonest, honestCount};
 ghost use Rattle.header.specs.Header.{leastThreshold, noneAbove, thresholdOk, fieldsOk, headerOk};
 ghost use Rattle.base.specs.Bytes.{between};
+
+pub mod quorum;
+
+// Peers by their signing keys, whose signatures are on an item or whose hashes have a board: bit k - 1 is peer k.
+pub struct Signers(pub u16);
+
+// Peers by their share keys, whose receipt shares are on an item or whose backings have a board: bit k - 1 is peer k.
+// A receipt share never counts as a signature, nor the reverse.
+pub struct Sharers(pub u16);
 
 // What a step needs of a table: its header, read once.
 pub struct Head {

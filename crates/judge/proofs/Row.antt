@@ -3,12 +3,12 @@ use Prim.Native.Nat.{ℕ, _^_, _≤_, _<_}
 use mathlib.Core.Bool.{Bool, false, not}
 use mathlib.Core.List.{List}
 use mathlib.Core.Path.{_≡_, sym, ap, ap₂, _∙_}
-use lib.Dec.{leb, ltb}
+use lib.Dec.{ltb}
 use borrow.Author.Tests.{ltb-true, not-false}
 use Rattle.rules.specs.declared.Entry.{Entry}
 use Rattle.rules.specs.declared.Entry.the-variants.{Hash, Backing}
+use Rattle.rules.specs.Table.{Table, quorum}
 use Rattle.rules.specs.Bag.{isFull}
-use Rattle.base.specs.Weight.{weight, ones}
 use Rattle.base.proofs.Refusals.{stop, pass, none-left}
 use Rattle.state.specs.Contents.{Canon}
 use Rattle.header.specs.declared.Head.{Head}
@@ -34,8 +34,9 @@ module _ (bag : List Entry) (j : ℕ) where
   pub own-hash : (p B C : ℕ) {r : Bool} → r ≡ isFull (Hash j p B) bag → B ≡ C → r ≡ isFull (Hash j p C) bag
   own-hash p B C e i = e ∙ ap (λ (D : ℕ). isFull (Hash j p D) bag) i
 
-  pub own-heard : (heard : ℕ → ℕ → ℕ → Bool) (t n c d B C : ℕ) {r : Bool} → r ≡ not (leb t (weight ones n (λ k. heard k c B))) → c ≡ d → B ≡ C → r ≡ not (leb t (weight ones n (λ k. heard k d C)))
-  own-heard heard t n c d B C e i k = e ∙ ap₂ (λ (q D : ℕ). not (leb t (weight ones n (λ k. heard k q D)))) i k
+  pub own-heard : (T : Table) (heard : ℕ → ℕ → ℕ → Bool) (c d B C : ℕ) {r : Bool} → r ≡ not (quorum T (λ k. heard k c B))
+      → c ≡ d → B ≡ C → r ≡ not (quorum T (λ k. heard k d C))
+  own-heard T heard c d B C e i k = e ∙ ap₂ (λ (q D : ℕ). not (quorum T (λ k. heard k q D))) i k
 
   pub own-backing : (c d B C : ℕ) {r : Bool} → r ≡ isFull (Backing j c B) bag → c ≡ d → B ≡ C → r ≡ isFull (Backing j d C) bag
   own-backing c d B C e i k = e ∙ ap₂ (λ (q D : ℕ). isFull (Backing j q D) bag) i k

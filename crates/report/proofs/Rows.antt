@@ -1,16 +1,16 @@
--- A peer's database held by value shows what the state has: the ones of a set are its signers.
+-- A peer's database held by value shows what the state has.
 use Prim.Native.Nat.{ℕ, zero, suc, _<_, _≤_}
 use native.Mathlib.Decide.{decLt}
 use native.Mathlib.Omega.{arith}
 use mathlib.Core.Bool.{false, cond}
 use mathlib.Core.List.{List, [], _++_}
 use mathlib.Core.Path.{_≡_, refl, sym, ap, ap₂, _∙_}
-use lib.Count.{ones}
 use lib.Dec.{ltb}
 use lib.ListN.{getD, replicate}
 use borrow.Author.Tests.{lt-ltb, le-ltb}
 use Rattle.base.proofs.Truth.{is-false}
-use Rattle.rules.specs.declared.Signers.{Signers}
+use Rattle.header.specs.declared.Signers.{Signers}
+use Rattle.header.specs.Quorum.{countIn}
 use Rattle.state.specs.Layout.{periods, items}
 use Rattle.state.specs.Facts.{isSpot}
 use Rattle.state.specs.Contents.{Contents, contents}
@@ -18,7 +18,7 @@ use Rattle.base.specs.Tab.{tab}
 use Rattle.state.proofs.Ranges.{spot-within}
 use Rattle.base.proofs.Tab.{tab-ext, getD-tab}
 use Rattle.sets.specs.Sets.{signersOf}
-use Rattle.sets.proofs.Words.{signers-out, signers-counted}
+use Rattle.sets.proofs.Words.{signers-out}
 use Rattle.database.specs.Database.{rowOf, databaseOf}
 use Rattle.header.specs.declared.Head.{Head}
 use Rattle.text.specs.Wrote.{Wrote, each}
@@ -29,14 +29,14 @@ use Rattle.report.specs.Rows.{setLine, rowItem, rowLines, rowIn}
 
 -- a set: a line where it has members
 
-module _ (j p x : ℕ) (set : Signers) {l : List ℕ} {a : ℕ} where
-  pub some-signers : {l₁ : List ℕ} {a₁ : ℕ} → 0 < ones (set .0) → Wrote l a (dbLine j p x (ones (set .0))) l₁ a₁ → Wrote l a (setLine j p x set) l₁ a₁
+module _ (j p x : ℕ) (set : Signers) {l : List ℕ} {a n : ℕ} (e : n ≡ countIn (set .0)) where
+  pub some-signers : {l₁ : List ℕ} {a₁ : ℕ} → 0 < n → Wrote l a (dbLine j p x n) l₁ a₁ → Wrote l a (setLine j p x set) l₁ a₁
   unfolding setLine
-  some-signers some w = rw (lt-ltb 0 (ones (set .0)) some) w
+  some-signers some w = rw (← e, lt-ltb 0 n some) w
 
-  pub no-signers : ones (set .0) ≤ 0 → Wrote l a (setLine j p x set) l a
+  pub no-signers : n ≤ 0 → Wrote l a (setLine j p x set) l a
   unfolding setLine
-  no-signers few = rw (le-ltb 0 (ones (set .0)) few) none
+  no-signers few = rw (← e, le-ltb 0 n few) none
 
 -- the row of a period, where there is room for it and where there is none
 
@@ -58,7 +58,7 @@ each-same f g (suc n) e = ap₂ _++_ (each-same f g n (λ k l. e k (omega arith)
 
 set-same : (c : Contents) (j p x : ℕ) (set : Signers) → set ≡ signersOf c j p x → setLine j p x set ≡ dbItem c j p x
 unfolding setLine dbItem
-set-same c j p x set e = ap (λ (n : ℕ). cond (ltb 0 n) (dbLine j p x n) []) (signers-counted c j p x set e)
+set-same c j p x set e = ap (λ (y : Signers). cond (ltb 0 (countIn (y .0))) (dbLine j p x (countIn (y .0))) []) e
 
 no-row : (s : List ℕ) (j p : ℕ) → periods ≤ p → replicate items (record { 0 = 0 }) ≡ rowOf (contents s) j p
 unfolding rowOf tab

@@ -6,17 +6,17 @@ use mathlib.Core.List.{List, [], _++_}
 use mathlib.Core.Path.{refl}
 use lib.Dec.{ltb}
 use lib.ListN.{length, length-append}
-use Rattle.base.specs.Bits.{bit}
+use Rattle.base.specs.Bits.{bit, member}
 use Rattle.base.specs.Weight.{ones, all}
 use Rattle.base.proofs.Weight.{weight-mono, count-all}
 use Rattle.rules.specs.declared.Entry.{Entry}
 use Rattle.rules.specs.declared.Entry.the-variants.{Hash, Backing, Board}
 use Rattle.rules.specs.Bag.{entryAt, periodOf}
-use Rattle.state.specs.declared.Fact.the-variants.{Known, Receipted}
-use Rattle.state.specs.Layout.{peers}
+use Rattle.state.specs.declared.Fact.the-variants.{Receipted}
 use Rattle.state.specs.Contents.{Contents}
-use Rattle.sets.specs.Sets.{signerCount}
+use Rattle.sets.specs.Sets.{signersOf}
 use Rattle.header.specs.declared.Head.{Head}
+use Rattle.header.specs.Quorum.{room, countIn}
 use Rattle.text.specs.Wrote.{each}
 use Rattle.text.specs.Decimal.{field}
 use Rattle.text.proofs.Digits.{decimal-most, field-most}
@@ -51,15 +51,17 @@ unfolding stepLine
 step-most k a l m = simp length-append (omega (arith, decimal-most 3 k (omega arith), field-most 1 a (omega arith)))
 
 module _ (h : Head) (few-peers : h .n ≤ 16) (few-periods : h .periods ≤ 8) (few-items : h .items ≤ 64) (c : Contents) where
-  signers-most : (j p x : ℕ) → signerCount c j p x ≤ 16
-  unfolding signerCount
-  signers-most j p x = omega (arith, weight-mono ones peers (λ k. c .has (Known j p x k)) all (λ k q. refl), count-all peers)
+  signers-most : (set : ℕ) → countIn set ≤ 16
+  unfolding countIn
+  signers-most set = omega (arith, weight-mono ones room (member set) all (λ k q. refl), count-all room)
 
   db-most : (j p x : ℕ) → j < 100 → p < 10 → x < 100 → length (dbItem c j p x) ≤ 15
   unfolding dbItem dbLine
   db-most j p x a b d =
-      if-most (ltb 0 (signerCount c j p x)) (db ++ field j ++ field p ++ field x ++ field (signerCount c j p x) ++ newline) 15
-      (simp length-append (omega (arith, field-most 1 j (omega arith), field-most 0 p (omega arith), field-most 1 x (omega arith), field-most 1 (signerCount c j p x) (omega (arith, signers-most j p x)))))
+      let n = countIn (signersOf c j p x .0) in
+      let small = field-most 1 n (omega (arith, signers-most (signersOf c j p x .0))) in
+      if-most (ltb 0 n) (db ++ field j ++ field p ++ field x ++ field n ++ newline) 15
+      (simp length-append (omega (arith, field-most 1 j (omega arith), field-most 0 p (omega arith), field-most 1 x (omega arith), small)))
 
   dbs-most : length (dbLines h c) ≤ 16 * (8 * (64 * 15))
   unfolding dbLines dbPeer dbPeriod

@@ -2,18 +2,18 @@
 use Prim.Native.Nat.{ℕ}
 use mathlib.Core.Bool.{cond}
 use mathlib.Core.List.{List, []}
-use lib.Count.{ones}
 use lib.Dec.{ltb}
 use lib.ListN.{getD, replicate}
-use Rattle.rules.specs.declared.Signers.{Signers}
+use Rattle.header.specs.declared.Signers.{Signers}
+use Rattle.header.specs.Quorum.{countIn}
 use Rattle.state.specs.Layout.{periods, items}
 use Rattle.header.specs.declared.Head.{Head}
 use Rattle.text.specs.Wrote.{each}
 use Rattle.report.specs.Lines.{dbLine}
 
--- the signers of item x in peer j's database of period p; an empty set is left out
+-- how many signers item x has in peer j's database of period p; an empty set is left out
 unfoldable pub setLine : ℕ → ℕ → ℕ → Signers → List ℕ
-setLine j p x set = cond (ltb 0 (ones (set .0))) (dbLine j p x (ones (set .0))) []
+setLine j p x set = cond (ltb 0 (countIn (set .0))) (dbLine j p x (countIn (set .0))) []
 
 -- the line of place x of a row
 unfoldable pub rowItem : List Signers → ℕ → ℕ → ℕ → List ℕ

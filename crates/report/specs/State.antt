@@ -9,15 +9,16 @@ use Rattle.rules.specs.declared.Entry.the-variants.{Hash, Backing, Board}
 use Rattle.rules.specs.Bag.{entryAt}
 use Rattle.state.specs.declared.Fact.the-variants.{Receipted}
 use Rattle.state.specs.Contents.{Contents}
-use Rattle.sets.specs.Sets.{signerCount}
+use Rattle.sets.specs.Sets.{signersOf}
 use Rattle.header.specs.declared.Head.{Head}
+use Rattle.header.specs.Quorum.{countIn}
 use Rattle.text.specs.Wrote.{each}
 use Rattle.report.specs.Words.{end}
 use Rattle.report.specs.Lines.{dbLine, receiptLine, boardLine}
 
--- the signers of item x in peer j's database of period p; an empty set is left out
+-- how many signers item x has in peer j's database of period p; an empty set is left out
 unfoldable pub dbItem : Contents → ℕ → ℕ → ℕ → List ℕ
-dbItem c j p x = cond (ltb 0 (signerCount c j p x)) (dbLine j p x (signerCount c j p x)) []
+dbItem c j p x = let n = countIn (signersOf c j p x .0) in cond (ltb 0 n) (dbLine j p x n) []
 
 unfoldable pub dbPeriod : Head → Contents → ℕ → ℕ → List ℕ
 dbPeriod h c j p = each (dbItem c j p) (h .items)

@@ -13,8 +13,9 @@ use bag::bag_len;
 use bag::entry_at;
 use database::database;
 use header::Head;
+use header::Signers;
+use header::quorum::signer_count;
 use rules::Entry;
-use rules::Signers;
 use state::Fact;
 use state::facts::is_there;
 use state::layout;
@@ -24,7 +25,7 @@ use text::put_word;
 fn put_db_item(out: &mut [u8], at: usize, set: Signers, j: u8, p: u8, x: u8) -> usize
     ensures { λ to. ⌜ Wrote (now (out .entry)) at (setLine j p x set) (now (out .exit)) to ⌝ }
 {
-    let signers = u32::count_ones(set.0 as u32);
+    let signers = signer_count(set);
     if 0 < signers {
         return put_db(out, at, j, p, x, signers);
     }

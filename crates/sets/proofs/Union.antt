@@ -12,7 +12,7 @@ use Rattle.base.proofs.Truth.{is-false, false-true, and-l, and-r, eqb-self}
 use Rattle.bits.specs.Row.{bitAt}
 use Rattle.bits.specs.Number.{joined}
 use Rattle.bits.proofs.Joined.{length-joined, bytes-joined, joined-out, bitAt-joined, bitAt-joined-out}
-use Rattle.rules.specs.declared.Signers.{Signers}
+use Rattle.header.specs.declared.Signers.{Signers}
 use Rattle.state.specs.declared.Fact.{Fact}
 use Rattle.state.specs.declared.Fact.the-variants.{Posted, Signed, Shared, Receipted, Held, Known, Heard}
 use Rattle.state.specs.Layout.{peers, peerBytes, databaseAt}

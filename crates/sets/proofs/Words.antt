@@ -4,25 +4,22 @@ use native.Mathlib.Omega.{arith}
 use mathlib.Core.Bool.{Bool, true, false}
 use mathlib.Core.List.{List}
 use mathlib.Core.Path.{_≡_, sym, ap, _∙_}
-use lib.Count as machine
 use lib.Pow.{pow-pos}
 use Rattle.base.specs.Bits.{bit, pack}
-use Rattle.base.specs.Weight.{ones}
 use Rattle.base.proofs.Bits.{bit-none, pack-ext, pack-bit}
 use Rattle.base.proofs.Truth.{is-false, split}
 use Rattle.bits.specs.Row.{bitAt}
 use Rattle.bits.specs.Number.{num}
 use Rattle.bits.proofs.Number.{num-pack}
-use Rattle.bits.proofs.Count.{ones-pack}
-use Rattle.rules.specs.declared.Signers.{Signers}
-use Rattle.rules.specs.declared.Sharers.{Sharers}
+use Rattle.header.specs.declared.Signers.{Signers}
+use Rattle.header.specs.declared.Sharers.{Sharers}
 use Rattle.state.specs.declared.Fact.{Fact}
 use Rattle.state.specs.declared.Fact.the-variants.{Posted, Shared, Held, Known}
 use Rattle.state.specs.Layout.{peers, items, peerBytes, itemBytes, postedAt, sharedAt, heldAt, databaseAt}
 use Rattle.state.specs.Facts.{inRange, Within, isCell, isRow, isSpot}
 use Rattle.state.specs.Places.{place, cell, row, spot}
-use Rattle.state.specs.Contents.{Contents, contents, Canon}
-use Rattle.sets.specs.Sets.{signersOf, sharersOf, heldOf, postedOf, signerCount, sharerCount}
+use Rattle.state.specs.Contents.{contents, Canon}
+use Rattle.sets.specs.Sets.{signersOf, sharersOf, heldOf, postedOf}
 use Rattle.state.proofs.Ranges.{range-within, within-range, cell-within, within-cell, row-within, within-row, spot-within, within-spot}
 use Rattle.state.proofs.Frame.{has-bit, has-none}
 
@@ -79,13 +76,3 @@ module _ (s : List ℕ) (b : Bool) where
 pub posted-inside : (s : List ℕ) → Canon s → num itemBytes s postedAt ≡ postedOf (contents s)
 unfolding postedOf
 posted-inside s c = facts-in s itemBytes postedAt Posted c (λ k l. (l, omega arith))
-
--- the members of a set of peers, counted by the machine
-
-pub signers-counted : (c : Contents) (j p i : ℕ) (x : Signers) → x ≡ signersOf c j p i → machine.ones (x .0) ≡ signerCount c j p i
-unfolding signersOf signerCount
-signers-counted c j p i x e = ap (λ (y : Signers). machine.ones (y .0)) e ∙ ones-pack peers (λ k. c .has (Known j p i k))
-
-pub sharers-counted : (c : Contents) (p i : ℕ) (x : Sharers) → x ≡ sharersOf c p i → machine.ones (x .0) ≡ sharerCount c p i
-unfolding sharersOf sharerCount
-sharers-counted c p i x e = ap (λ (y : Sharers). machine.ones (y .0)) e ∙ ones-pack peers (λ k. c .has (Shared k p i))

@@ -3,9 +3,8 @@ use Prim.Native.Nat.{ℕ, _+_, _-_}
 use mathlib.Core.Bool.{Bool, false, _&&_}
 use lib.Dec.{eqb}
 use Rattle.base.specs.Bits.{bit, pack}
-use Rattle.base.specs.Weight.{weight, ones}
-use Rattle.rules.specs.declared.Signers.{Signers}
-use Rattle.rules.specs.declared.Sharers.{Sharers}
+use Rattle.header.specs.declared.Signers.{Signers}
+use Rattle.header.specs.declared.Sharers.{Sharers}
 use Rattle.state.specs.declared.Fact.{Fact}
 use Rattle.state.specs.declared.Fact.the-variants.{Posted, Signed, Shared, Receipted, Held, Known, Heard}
 use Rattle.state.specs.Layout.{peers, items}
@@ -27,14 +26,6 @@ heldOf c j p = pack items (λ i. c .has (Held j p i))
 -- the posted items
 unfoldable pub postedOf : Contents → ℕ
 postedOf c = pack items (λ i. c .has (Posted i))
-
--- how many signers peer j's database has on an item in a period
-unfoldable pub signerCount : Contents → ℕ → ℕ → ℕ → ℕ
-signerCount c j p i = weight ones peers (λ k. c .has (Known j p i k))
-
--- how many peers' receipt shares on an item in a period are outside
-unfoldable pub sharerCount : Contents → ℕ → ℕ → ℕ
-sharerCount c p i = weight ones peers (λ k. c .has (Shared k p i))
 
 -- peer k is in the set of peers x
 unfoldable pub inSet : ℕ → ℕ → Bool

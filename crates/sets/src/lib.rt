@@ -1,11 +1,11 @@
 // The sets that a state holds as numbers, read and added to whole. Names for which there is no room have none.
-// It uses state for where they stand and what the bytes say, bits to read and to write, and the sets of peers of rules.
+// It uses state for where they stand and what the bytes say, bits to read and to write, and the sets of peers of header.
 ghost use mathlib.Core.Path.{_≡_};
 ghost use Rattle.state.specs.Facts.{Spot};
 ghost use Rattle.state.specs.Contents.{contents, Canon, Holds, adding};
-ghost use Rattle.sets.specs.Sets.{signersOf, sharersOf, heldOf, postedOf, signerCount, sharerCount, onItem, knownTo};
-use rules::Sharers;
-use rules::Signers;
+ghost use Rattle.sets.specs.Sets.{signersOf, sharersOf, heldOf, postedOf, onItem, knownTo};
+use header::Sharers;
+use header::Signers;
 use state::layout;
 use state::place::cell_of;
 use state::place::row_of;
@@ -57,24 +57,6 @@ pub fn posted(s: &[u8]) -> u64
     ensures { λ r. ⌜ r ≡ postedOf (contents (now (s .entry))) ⌝ }
 {
     bits::load(s, layout::POSTED, layout::ITEM_BYTES)
-}
-
-// How many signers peer j's database has on item i in period p.
-pub fn signer_count(s: &[u8], j: u8, p: u8, i: u8) -> u32
-    requires { ⌜ Canon (now s) ⌝ }
-    ensures { λ r. ⌜ r ≡ signerCount (contents (now (s .entry))) j p i ⌝ }
-{
-    let set = signers_of(s, j, p, i);
-    u32::count_ones(set.0 as u32)
-}
-
-// How many peers' receipt shares on item i in period p are outside.
-pub fn sharer_count(s: &[u8], p: u8, i: u8) -> u32
-    requires { ⌜ Canon (now s) ⌝ }
-    ensures { λ r. ⌜ r ≡ sharerCount (contents (now (s .entry))) p i ⌝ }
-{
-    let set = sharers_of(s, p, i);
-    u32::count_ones(set.0 as u32)
 }
 
 // Adds a set of signers on item i to peer j's database of period p.

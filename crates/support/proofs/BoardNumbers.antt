@@ -7,31 +7,32 @@ use mathlib.Core.List.{List}
 use mathlib.Core.Path.{_≡_, refl, sym, ap, _∙_}
 use mathlib.Core.Logic.{_⊎_, inl, inr}
 use lib.Bits.{bitOr, or-lt}
-use lib.Dec.{eqb, leb}
+use lib.Dec.{eqb}
 use lib.Pow.{pow-mono}
 use borrow.Author.Tests.{eqb-true, eq-eqb}
 use Rattle.base.specs.Below.{any}
 use Rattle.base.specs.Bits.{bit, pack}
-use Rattle.base.specs.Weight.{weight, ones}
 use Rattle.base.proofs.Below.{any-at, any-found}
 use Rattle.base.proofs.Bits.{bit-or, bit-ext, bit-high, bit-pack, pack-lt, pack-ext}
 use Rattle.base.proofs.Truth.{either, split, not-i, or-l, and-l, and-r}
+use Rattle.rules.specs.Table.{quorum}
 use Rattle.rules.specs.Rules.{boardFrom}
-use Rattle.state.specs.declared.Fact.the-variants.{Posted, Known}
+use Rattle.state.specs.declared.Fact.the-variants.{Posted}
 use Rattle.state.specs.Contents.{Contents, contents}
-use Rattle.sets.specs.Sets.{signerCount, postedOf}
-use Rattle.database.specs.Database.{reaches, peerBoard}
+use Rattle.sets.specs.Sets.{signersOf, postedOf}
+use Rattle.database.specs.Database.{onBoard, peerBoard}
 use Rattle.header.specs.declared.Head.{Head}
+use Rattle.header.specs.Quorum.{reaches}
 use Rattle.view.specs.View.{noClash, tableOf, stateOf}
 use Rattle.view.specs.Ready.{Ready}
-use Rattle.guard.proofs.Counts.{signers-weigh}
+use Rattle.view.proofs.Quorum.{signers-quorum}
 
 module _ (h : Head) (s : List ℕ) (R : Ready h s) where
   -- the board that a peer finds is the board of the rules
-  pub board-found : (j p : ℕ) {r : ℕ} → r ≡ peerBoard (contents s) j p (h .items) (h .t) → r ≡ boardFrom (tableOf h noClash) (stateOf (contents s) .db j p)
-  unfolding peerBoard boardFrom reaches
-  board-found j p e = e ∙ pack-ext (h .items) (λ x. leb (h .t) (signerCount (contents s) j p x)) (λ x. leb (h .t) (weight ones (h .n) (λ k. contents s .has (Known j p x k))))
-      (λ x l. ap (λ (w : ℕ). leb (h .t) w) (signers-weigh h s R j p x))
+  pub board-found : (j p : ℕ) {r : ℕ} → r ≡ peerBoard h (contents s) j p → r ≡ boardFrom (tableOf h noClash) (stateOf (contents s) .db j p)
+  unfolding peerBoard onBoard boardFrom
+  board-found j p e = e ∙ pack-ext (h .items) (λ x. reaches h (signersOf (contents s) j p x .0)) (λ x. quorum (tableOf h noClash) (stateOf (contents s) .db j p x))
+      (λ x l. signers-quorum h s R j p x)
 
 or-within : (a b : Bool) → (a && not b ≡ true → ⊥) → a || b ≡ b
 or-within true true f = refl

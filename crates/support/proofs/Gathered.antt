@@ -1,4 +1,4 @@
--- Supporters gathered into a set, one entry after the other, and counted as the rules weigh them.
+-- Supporters gathered into a set, one entry after the other, and a quorum of the rules where they reach t.
 use Prim.Native.Nat.{ℕ, _+_, _-_, _^_, _≤_, _<_}
 use native.Mathlib.Numerals.{add-one}
 use native.Mathlib.Omega.{arith}
@@ -7,21 +7,22 @@ use mathlib.Core.List.{List}
 use mathlib.Core.Path.{_≡_, refl, sym, ap, ap₂, subst, _∙_}
 use mathlib.Core.Logic.{_⊎_, inl, inr}
 use lib.Bits.{bitOr, or-lt}
-use lib.Count as machine
-use lib.Dec.{eqb, leb}
+use lib.Dec.{eqb}
 use lib.ListN.{length}
 use lib.Pow.{pow-lt}
-use borrow.Author.Tests.{eqb-true, eq-eqb, ne-eqb}
+use borrow.Author.Tests.{eqb-true, eq-eqb, ne-eqb, le-leb}
 use Rattle.base.specs.Below.{any}
-use Rattle.base.specs.Bits.{bit, pack}
-use Rattle.base.specs.Weight.{weight, ones}
+use Rattle.base.specs.Bits.{bit, pack, member}
+use Rattle.base.specs.Bytes.{between}
 use Rattle.base.proofs.Below.{any-at, any-found}
 use Rattle.base.proofs.Bits.{bit-or, bit-pow, bit-ext, bit-pack, pack-bit, pack-ext, pack-lt}
-use Rattle.base.proofs.Truth.{either, iff, and-l, and-r, eqb-self}
-use Rattle.base.proofs.Weight.{weight-ext}
-use Rattle.bits.proofs.Count.{ones-pack}
+use Rattle.base.proofs.Bytes.{between-true}
+use Rattle.base.proofs.Members.{member-pack}
+use Rattle.base.proofs.Truth.{either, iff, split, and-i, and-l, and-r, eqb-self}
 use Rattle.rules.specs.declared.Entry.{Entry}
 use Rattle.rules.specs.declared.Entry.the-variants.{Hash, Backing, Board}
+use Rattle.rules.specs.Table.{quorum}
+use Rattle.rules.specs.Rules.{backers}
 use Rattle.rules.specs.Bag.{isIn, isHash, entryAt, kindOf, signerOf, periodOf, boardOf}
 use Rattle.rules.proofs.Bag.{in-at, at-in}
 use Rattle.state.specs.declared.Fact.the-variants.{Heard}
@@ -29,37 +30,41 @@ use Rattle.state.specs.Layout.{hashKind, backingKind}
 use Rattle.state.specs.Contents.{Contents, contents}
 use Rattle.bag.specs.Bag.{signerWith}
 use Rattle.header.specs.declared.Head.{Head}
-use Rattle.view.specs.View.{noClash, told}
+use Rattle.header.specs.Quorum.{room, withPeer, reaches}
+use Rattle.header.proofs.Reach.{peer-none}
+use Rattle.view.specs.View.{noClash, tableOf, stateOf, told}
 use Rattle.view.specs.Ready.{Ready}
 use Rattle.view.proofs.Heard.{told-at, told-in, number-told}
-use Rattle.support.specs.Signers.{heardSigner, backSigner, withPeer, gathered}
-use Rattle.guard.proofs.Counts.{among}
+use Rattle.support.specs.Signers.{heardSigner, backSigner, gathered}
+use Rattle.view.proofs.Quorum.{is-quorum}
 
--- a set with one peer more
+-- a set with one peer more, member by member
 
 or-false : (a b : Bool) → b ≡ false → a || b ≡ a
 or-false true b e = refl
 or-false false b e = e
 
-no-peer : (set k : ℕ) → set < 2 ^ 16 → ((i : ℕ) → i < 16 → k ≡ i + 1 → ⊥) → set ≡ withPeer set k
-unfolding withPeer
-no-peer set k l out = sym (pack-ext 16 (λ i. bit set i || eqb k (i + 1)) (bit set) (λ i m. or-false (bit set i) (eqb k (i + 1)) (ne-eqb k (i + 1) (out i m))) ∙ pack-bit 16 set l)
+no-peer : (set k : ℕ) → set < 2 ^ room → ((i : ℕ) → i < room → k ≡ i + 1 → ⊥) → set ≡ pack room (λ i. bit set i || eqb k (i + 1))
+no-peer set k l out =
+    sym (pack-ext room (λ i. bit set i || eqb k (i + 1)) (bit set) (λ i m. or-false (bit set i) (eqb k (i + 1)) (ne-eqb k (i + 1) (out i m)))
+    ∙ pack-bit room set l)
 
-pub peer-none : (set k : ℕ) → set < 2 ^ 16 → k ≡ 0 → set ≡ withPeer set k
-peer-none set k l e = no-peer set k l (λ i m q. omega arith)
-
-pub peer-high : (set k : ℕ) → set < 2 ^ 16 → 16 < k → set ≡ withPeer set k
-peer-high set k l h = no-peer set k l (λ i m q. omega arith)
-
-pub peer-more : (set k : ℕ) → set < 2 ^ 16 → (k ≡ 0 → ⊥) → k ≤ 16 → bitOr set (2 ^ (k - 1)) ≡ withPeer set k
-unfolding withPeer
-peer-more set k l d h =
+one-peer : (set k : ℕ) → set < 2 ^ room → 1 ≤ k → k ≤ room → bitOr set (2 ^ (k - 1)) ≡ pack room (λ i. bit set i || eqb k (i + 1))
+one-peer set k l d h =
     let f : ℕ → Bool = λ i. bit set i || eqb k (i + 1) in
-    bit-ext 16 (bitOr set (2 ^ (k - 1))) (pack 16 f) (or-lt 16 set (2 ^ (k - 1)) l (pow-lt {i = k - 1} {j = 16} (omega arith))) (pack-lt 16 f)
-    (λ i m. bit-or set (2 ^ (k - 1)) i ∙ ap (λ (b : Bool). bit set i || b) (bit-pow (k - 1) i ∙ same i) ∙ sym (bit-pack 16 f i m))
+    bit-ext room (bitOr set (2 ^ (k - 1))) (pack room f) (or-lt room set (2 ^ (k - 1)) l (pow-lt {i = k - 1} {j = room} (omega arith))) (pack-lt room f)
+    (λ i m. bit-or set (2 ^ (k - 1)) i ∙ ap (λ (b : Bool). bit set i || b) (bit-pow (k - 1) i ∙ same i) ∙ sym (bit-pack room f i m))
   where
     same : (i : ℕ) → eqb (k - 1) i ≡ eqb k (i + 1)
     same i = iff _ _ (λ e. eq-eqb k (i + 1) (omega (arith, d, eqb-true (k - 1) i e))) (λ e. eq-eqb (k - 1) i (omega (arith, eqb-true k (i + 1) e)))
+
+with-members : (set k : ℕ) → set < 2 ^ room → withPeer set k ≡ pack room (λ i. bit set i || eqb k (i + 1))
+unfolding withPeer
+with-members set k l = go (either (between 1 k room))
+  where
+    go : (between 1 k room ≡ true) ⊎ (between 1 k room ≡ false) → cond (between 1 k room) (bitOr set (2 ^ (k - 1))) set ≡ pack room (λ i. bit set i || eqb k (i + 1))
+    go (inl t) = let w = between-true 1 k room t in rw t (one-peer set k l (w .0) (w .1))
+    go (inr t) = rw t (no-peer set k l (λ i m q. split (and-i _ _ (le-leb 1 k (omega arith)) (le-leb k room (omega arith))) t))
 
 -- the signer of an entry, as it is read and added
 
@@ -71,21 +76,17 @@ either-way : (b : Bool) → _≡_ {A = ℕ} (cond b 0 0) 0
 either-way true = refl
 either-way false = refl
 
-module _ (c : Contents) (j p B e set k : ℕ) (l : set < 2 ^ 16) (q : k ≡ signerWith hashKind p B (entryAt (c .bag) e)) where
+module _ (c : Contents) (j p B e set k : ℕ) (q : k ≡ signerWith hashKind p B (entryAt (c .bag) e)) where
   pub heard-none : k ≡ 0 → set ≡ withPeer set (heardSigner c j p B e)
-  heard-none z = peer-none set _ l (sym (heard-if c j p B e refl q) ∙ rw z (either-way (c .has (Heard j e))))
+  heard-none z = peer-none set _ (sym (heard-if c j p B e refl q) ∙ rw z (either-way (c .has (Heard j e))))
 
   pub heard-not : {b : Bool} → b ≡ c .has (Heard j e) → b ≡ false → set ≡ withPeer set (heardSigner c j p B e)
-  heard-not t u = peer-none set _ l (sym (heard-if c j p B e t q) ∙ rw u)
+  heard-not t u = peer-none set _ (sym (heard-if c j p B e t q) ∙ rw u)
 
   pub heard-more : {b : Bool} {r : ℕ} → b ≡ c .has (Heard j e) → b ≡ true → r ≡ withPeer set k → r ≡ withPeer set (heardSigner c j p B e)
   heard-more t u w = w ∙ ap (withPeer set) (rw u at (heard-if c j p B e t q))
 
 module _ (c : Contents) (p B e set k : ℕ) (q : k ≡ signerWith backingKind p B (entryAt (c .bag) e)) where
-  pub backer-none : set < 2 ^ 16 → k ≡ 0 → set ≡ withPeer set (backSigner c p B e)
-  unfolding backSigner
-  backer-none l z = peer-none set _ l (sym q ∙ z)
-
   pub backer-more : {r : ℕ} → r ≡ withPeer set k → r ≡ withPeer set (backSigner c p B e)
   unfolding backSigner
   backer-more w = w ∙ ap (withPeer set) q
@@ -97,18 +98,16 @@ unfolding gathered any pack
 gather-none f = refl
 
 pub gather-more : (f : ℕ → ℕ) (e set r : ℕ) → set ≡ gathered f e → r ≡ withPeer set (f e) → r ≡ gathered f (e + 1)
-unfolding gathered withPeer any
-gather-more f e set r s w = w ∙ pack-ext 16 (λ i. bit set i || eqb (f e) (i + 1)) (λ i. any (e + 1) (λ a. eqb (f a) (i + 1))) (λ i l. rw (s, bit-pack 16 (λ i. any e (λ a. eqb (f a) (i + 1))) i l, add-one e))
+unfolding gathered any
+gather-more f e set r s w = w ∙ with-members set (f e) (rw s (pack-lt room (λ k. any e (λ a. eqb (f a) (k + 1))))) ∙ pack-ext 16 (λ i. bit set i || eqb (f e) (i + 1)) (λ i. any (e + 1) (λ a. eqb (f a) (i + 1))) (λ i l. rw (s, bit-pack 16 (λ i. any e (λ a. eqb (f a) (i + 1))) i l, add-one e))
 
 pub gather-end : (f : ℕ → ℕ) (e n set l : ℕ) → e ≤ n → n ≤ e → n ≡ l → set ≡ gathered f e → set ≡ gathered f l
 gather-end f e n set l a b q s = s ∙ ap (gathered f) {x = e} {y = l} (omega arith)
 
--- the members of what was gathered, counted
-gathered-weigh : (f : ℕ → ℕ) (n m set : ℕ) (S : ℕ → Bool) → n ≤ 16 → ((k : ℕ) → S k ≡ true → k ≤ n) → ((k : ℕ) → 1 ≤ k → any m (λ e. eqb (f e) k) ≡ S k)
-    → set ≡ gathered f m → machine.ones set ≡ weight ones n S
+-- who is among those gathered
+gathered-has : (f : ℕ → ℕ) (m k : ℕ) → 1 ≤ k → k ≤ room → member (gathered f m) k ≡ any m (λ e. eqb (f e) k)
 unfolding gathered
-gathered-weigh f n m set S l below same e =
-    ap machine.ones e ∙ ones-pack 16 (λ k. any m (λ e. eqb (f e) k)) ∙ weight-ext ones 16 (λ k. any m (λ e. eqb (f e) k)) S (λ k a b. same k a) ∙ among ones n 16 S l below
+gathered-has f m k a b = member-pack room (λ k. any m (λ e. eqb (f e) k)) k a b
 
 -- what an entry whose signer was found is
 
@@ -193,33 +192,31 @@ module _ (c : Contents) (p B k : ℕ) (a : 1 ≤ k) where
           let f = in-at (Backing k p B) (c .bag) t in
           any-at (λ e. eqb (signerWith backingKind p B (entryAt (c .bag) e)) k) (f .0) (length (c .bag)) (f .1) (eq-eqb _ k (found-backing (entryAt (c .bag) (f .0)) k p B (f .2)))
 
--- in a state that is ready no supporter is above n
+-- in a state that is ready no supporter is above n: they are a quorum of the rules where they reach t
 
-module _ (h : Head) (s : List ℕ) (R : Ready h s) where
-  heard-weigh : (j p B set : ℕ) → set ≡ gathered (heardSigner (contents s) j p B) (length (contents s .bag))
-      → machine.ones set ≡ weight ones (h .n) (λ k. told (λ e. contents s .has (Heard j e)) 0 (contents s .bag) k p B)
-  heard-weigh j p B set e =
-      gathered-weigh (heardSigner (contents s) j p B) (h .n) (length (contents s .bag)) set (λ k. told (λ e. contents s .has (Heard j e)) 0 (contents s .bag) k p B)
-      (R .room .peers)
-      (λ k t. R .good noClash .valid .bag .entries (Hash k p B) (told-in (λ e. contents s .has (Heard j e)) 0 (contents s .bag) k p B t) .0 .1)
-      (λ k a. heard-same (contents s) p B k a j)
-      e
+module _ (h : Head) (s : List ℕ) (R : Ready h s) {r : Bool} where
+  pub heard-few : (j p B set : ℕ) → set ≡ gathered (heardSigner (contents s) j p B) (length (contents s .bag)) → r ≡ reaches h set
+      → not r ≡ not (quorum (tableOf h noClash) (λ k. stateOf (contents s) .heard j k p B))
+  heard-few j p B set e f = ap not (f ∙ ap (reaches h) e ∙ is-quorum h noClash _ S (R .room .peers) same below)
+    where
+      S : ℕ → Bool
+      S k = stateOf (contents s) .heard j k p B
 
-  backers-weigh : (p B set : ℕ) → set ≡ gathered (backSigner (contents s) p B) (length (contents s .bag))
-      → machine.ones set ≡ weight ones (h .n) (λ k. isIn (Backing k p B) (contents s .bag))
-  backers-weigh p B set e =
-      gathered-weigh (backSigner (contents s) p B) (h .n) (length (contents s .bag)) set (λ k. isIn (Backing k p B) (contents s .bag))
-      (R .room .peers)
-      (λ k t. R .good noClash .valid .bag .entries (Backing k p B) t .0 .1)
-      (λ k a. backers-same (contents s) p B k a)
-      e
+      same : (k : ℕ) → 1 ≤ k → k ≤ room → member (gathered (heardSigner (contents s) j p B) (length (contents s .bag))) k ≡ S k
+      same k a b = gathered-has _ _ k a b ∙ heard-same (contents s) p B k a j
 
-  -- fewer than t, weighed as the rules do
+      below : (k : ℕ) → S k ≡ true → k ≤ h .n
+      below k t = R .good noClash .valid .bag .entries (Hash k p B) (told-in (λ e. contents s .has (Heard j e)) 0 (contents s .bag) k p B t) .0 .1
 
-  pub heard-few : (j p B set : ℕ) {r : Bool} → set ≡ gathered (heardSigner (contents s) j p B) (length (contents s .bag)) → r ≡ not (leb (h .t) (machine.ones set))
-      → r ≡ not (leb (h .t) (weight ones (h .n) (λ k. told (λ e. contents s .has (Heard j e)) 0 (contents s .bag) k p B)))
-  heard-few j p B set e f = f ∙ ap (λ (n : ℕ). not (leb (h .t) n)) (heard-weigh j p B set e)
+  pub backers-few : (p B set : ℕ) → set ≡ gathered (backSigner (contents s) p B) (length (contents s .bag)) → r ≡ reaches h set
+      → not r ≡ not (quorum (tableOf h noClash) (backers (contents s .bag) p B))
+  backers-few p B set e f = ap not (f ∙ ap (reaches h) e ∙ is-quorum h noClash _ S (R .room .peers) same below)
+    where
+      S : ℕ → Bool
+      S = backers (contents s .bag) p B
 
-  pub backers-few : (p B set : ℕ) {r : Bool} → set ≡ gathered (backSigner (contents s) p B) (length (contents s .bag)) → r ≡ not (leb (h .t) (machine.ones set))
-      → r ≡ not (leb (h .t) (weight ones (h .n) (λ k. isIn (Backing k p B) (contents s .bag))))
-  backers-few p B set e f = f ∙ ap (λ (n : ℕ). not (leb (h .t) n)) (backers-weigh p B set e)
+      same : (k : ℕ) → 1 ≤ k → k ≤ room → member (gathered (backSigner (contents s) p B) (length (contents s .bag))) k ≡ S k
+      same k a b = gathered-has _ _ k a b ∙ backers-same (contents s) p B k a
+
+      below : (k : ℕ) → S k ≡ true → k ≤ h .n
+      below k t = R .good noClash .valid .bag .entries (Backing k p B) t .0 .1

@@ -1,9 +1,9 @@
 -- The peers whose entries support a board of a period, gathered into a set of peers.
 use Prim.Native.Nat.{ℕ, _+_}
-use mathlib.Core.Bool.{cond, _||_}
+use mathlib.Core.Bool.{cond}
 use lib.Dec.{eqb}
 use Rattle.base.specs.Below.{any}
-use Rattle.base.specs.Bits.{bit, pack}
+use Rattle.base.specs.Bits.{pack}
 use Rattle.rules.specs.Bag.{entryAt}
 use Rattle.state.specs.declared.Fact.the-variants.{Heard}
 use Rattle.state.specs.Layout.{peers, hashKind, backingKind}
@@ -17,10 +17,6 @@ heardSigner c j p B e = cond (c .has (Heard j e)) (signerWith hashKind p B (entr
 -- the signer of entry e if it is a backing of period p and board B, else 0
 unfoldable pub backSigner : Contents → ℕ → ℕ → ℕ → ℕ
 backSigner c p B e = signerWith backingKind p B (entryAt (c .bag) e)
-
--- a set of peers with peer k; no peer is 0 or above 16
-unfoldable pub withPeer : ℕ → ℕ → ℕ
-withPeer set k = pack peers (λ i. bit set i || eqb k (i + 1))
 
 -- the set of the peers f 0 to f (n - 1)
 unfoldable pub gathered : (ℕ → ℕ) → ℕ → ℕ

@@ -23,7 +23,7 @@ pub fn board_by(s: &[u8], h: Head, j: u8, p: u8) -> u64
     requires { ⌜ Ready h (now s) ⌝ }
     ensures { λ r. ⌜ r ≡ boardOn h (now (s .entry)) j p ⌝ }
 {
-    board_of(s, j, p, h.items, h.t)
+    board_of(s, h, j, p)
 }
 
 // An item of the board is not posted.

@@ -3,3 +3,4 @@ pub mod Meets
 pub mod Keeps
 pub mod Whatever
 pub mod Heard
+pub mod Quorum

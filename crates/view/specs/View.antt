@@ -4,7 +4,6 @@ use mathlib.Core.Bool.{Bool, false, _&&_, _||_}
 use mathlib.Core.List.{List, [], _∷_}
 use lib.Dec.{eqb}
 use Rattle.base.specs.Bits.{bit}
-use Rattle.base.specs.Weight.{ones}
 use Rattle.rules.specs.declared.Entry.{Entry}
 use Rattle.rules.specs.declared.Entry.the-variants.{Hash}
 use Rattle.rules.specs.declared.Step.{Step}
@@ -17,10 +16,11 @@ use Rattle.state.specs.declared.Number.the-variants.{CurrentOf, ToBackOf, DownO
 use Rattle.state.specs.Contents.{Contents, contents}
 use Rattle.header.specs.declared.Head.{Head}
 use Rattle.header.specs.Header.{isHonest}
+use Rattle.header.specs.Quorum.{weightOf}
 
--- the table of the rules: every weight is 1
+-- the table of the rules
 abbrev pub tableOf : Head → (ℕ → ℕ → Bool) → Table
-tableOf h clash = record { n = h .n; t = h .t; honest = isHonest h; weightOf = ones; periods = h .periods; items = h .items; clash = clash }
+tableOf h clash = record { n = h .n; t = h .t; honest = isHonest h; weightOf = weightOf h; periods = h .periods; items = h .items; clash = clash }
 
 -- of most steps the rules do not ask what clashes: they are judged as if nothing did
 abbrev pub noClash : ℕ → ℕ → Bool

@@ -4,16 +4,16 @@ use mathlib.Core.Path.{_≡_}
 use borrow.Author.Needs.{needs}
 use Rattle.base.specs.Bits.{pack}
 use Rattle.state.specs.Contents.{contents}
-use Rattle.database.specs.Database.{reaches}
+use Rattle.database.specs.Database.{onBoard}
 use Rattle.database.proofs.Boards.{board-none, board-more, board-lt, board-end}
 use Rattle.database.proofs.board_of.Statement.{statement}
 use Rattle.database.proofs.board_of.Tie as tie
 
 abbrev Inv-loop : tie.InvT-loop
-Inv-loop s j p m t sets b₀ i₀ b i = (i ≤ m) × (b ≡ pack i (reaches (contents s) j p t))
+Inv-loop s h j p sets m b₀ i₀ b i = (i ≤ m) × (b ≡ pack i (onBoard h (contents s) j p))
 
 abbrev μ-loop : tie.MeasureT-loop
-μ-loop s j p m t sets b₀ i₀ b i = m - i
+μ-loop s h j p sets m b₀ i₀ b i = m - i
 
 row-requires : tie.Need-row-requires Inv-loop μ-loop
 row-requires c κs = search needs
@@ -21,17 +21,17 @@ row-requires c κs = search needs
 loop-holds : tie.Need-loop-holds Inv-loop μ-loop
 loop-holds c = (search needs, search board-none)
 
-cast-has-signers : tie.Need-cast-has-signers Inv-loop μ-loop
-cast-has-signers c = search needs
+cast-signers-reach : tie.Need-cast-signers-reach Inv-loop μ-loop
+cast-signers-reach c = search needs
 
-mul-has-signers : tie.Need-mul-has-signers Inv-loop μ-loop
-mul-has-signers c = search needs
+mul-signers-reach : tie.Need-mul-signers-reach Inv-loop μ-loop
+mul-signers-reach c = search needs
 
-array-copy-out-has-signers : tie.Need-array-copy-out-has-signers Inv-loop μ-loop
-array-copy-out-has-signers c = search needs
+array-copy-out-signers-reach : tie.Need-array-copy-out-signers-reach Inv-loop μ-loop
+array-copy-out-signers-reach c = search needs
 
-has-signers-requires : tie.Need-has-signers-requires Inv-loop μ-loop
-has-signers-requires c κs = search needs
+signers-reach-requires : tie.Need-signers-reach-requires Inv-loop μ-loop
+signers-reach-requires c κs = search needs
 
 with-item-requires : tie.Need-with-item-requires Inv-loop μ-loop
 with-item-requires c κs = (search board-lt, search needs)
@@ -46,7 +46,7 @@ loop-again : tie.Need-loop-again Inv-loop μ-loop
 loop-again c =
     let turn = c .before .before .before in
     let l = turn .before in
-    (search needs, board-more _ _ _ _ _ _ _ _ _ _ (l .before .row .ensures) (search needs) (turn .loop-test .taken) (l .loop .inv .1) (c .before .has-signers .ensures) (c .with-item .ensures))
+    (search needs, board-more _ _ _ _ _ _ _ _ _ (l .before .row .ensures) (search needs) (turn .loop-test .taken) (l .loop .inv .1) (c .before .signers-reach .ensures) (c .with-item .ensures))
 
 returns : tie.Need-returns Inv-loop μ-loop
 returns c = search board-end
@@ -59,10 +59,10 @@ board-of-spec =
     μ-loop
     row-requires
     loop-holds
-    cast-has-signers
-    mul-has-signers
-    array-copy-out-has-signers
-    has-signers-requires
+    cast-signers-reach
+    mul-signers-reach
+    array-copy-out-signers-reach
+    signers-reach-requires
     with-item-requires
     add-i
     loop-less

@@ -8,7 +8,7 @@ shl-result : tie.Need-shl-result
 shl-result c = search needs
 
 returns : tie.Need-returns
-returns c = shifted _ (c .pre)
+returns c = shifted 64 _ (c .pre)
 
 pub worth-spec : {M : Type 1} → statement M
 worth-spec = tie.close (tie.spec shl-result returns)

@@ -1,7 +1,7 @@
 -- By `own-heard`.
 use denote.Ref.{now}
 use Rattle.state.specs.Contents.{contents}
-use Rattle.view.specs.View.{stateOf}
+use Rattle.view.specs.View.{noClash, tableOf, stateOf}
 use Rattle.judge.proofs.Row.{own-heard}
 use borrow.Author.Needs.{needs}
 use Rattle.judge.proofs.own.few_heard_own.Statement.{statement}
@@ -11,7 +11,10 @@ few-heard-requires : tie.Need-few-heard-requires
 few-heard-requires c κs = search needs
 
 returns : tie.Need-returns
-returns c = let a = c .before .before in own-heard (contents (now (a .args .s)) .bag) (a .args .j) (stateOf (contents (now (a .args .s))) .heard (a .args .j)) _ _ _ _ _ _ (c .few-heard .ensures) (a .pre .1) (a .pre .2)
+returns c =
+    let a = c .before .before in
+    let held = contents (now (a .args .s)) in
+    own-heard (held .bag) (a .args .j) (tableOf (a .args .h) noClash) (stateOf held .heard (a .args .j)) _ _ _ _ (c .few-heard .ensures) (a .pre .1) (a .pre .2)
 
 pub few-heard-own-spec : {M : Type 1} → statement M
 few-heard-own-spec = tie.close (tie.spec few-heard-requires returns)

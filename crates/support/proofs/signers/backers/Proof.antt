@@ -10,7 +10,7 @@ use Rattle.support.proofs.signers.backers.Statement.{statement}
 use Rattle.support.proofs.signers.backers.Tie as tie
 
 abbrev Inv-loop : tie.InvT-loop
-Inv-loop s p board n set₀ e₀ set e = (e ≤ n) × (set ≡ gathered (backSigner (contents s) p board) e)
+Inv-loop s p board n set₀ e₀ set e = (e ≤ n) × (set .0 ≡ gathered (backSigner (contents s) p board) e)
 
 abbrev μ-loop : tie.MeasureT-loop
 μ-loop s p board n set₀ e₀ set e = n - e

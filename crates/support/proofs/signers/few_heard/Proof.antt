@@ -7,11 +7,11 @@ use Rattle.support.proofs.signers.few_heard.Tie as tie
 heard-signers-requires : tie.Need-heard-signers-requires
 heard-signers-requires c κs = search needs
 
-fewer-requires : tie.Need-fewer-requires
-fewer-requires c κs = search needs
+signers-reach-requires : tie.Need-signers-reach-requires
+signers-reach-requires c κs = search needs
 
 returns : tie.Need-returns
-returns c = let ready = c .before .before .before .pre in heard-few _ _ ready _ _ _ _ (c .before .heard-signers .ensures) (c .fewer .ensures)
+returns c = let ready = c .before .before .before .pre in heard-few _ _ ready _ _ _ _ (c .before .heard-signers .ensures) (c .signers-reach .ensures)
 
 pub few-heard-spec : {M : Type 1} → statement M
-few-heard-spec = tie.close (tie.spec heard-signers-requires fewer-requires returns)
+few-heard-spec = tie.close (tie.spec heard-signers-requires signers-reach-requires returns)

@@ -10,7 +10,7 @@ use Rattle.support.proofs.signers.heard_signers.Statement.{statement}
 use Rattle.support.proofs.signers.heard_signers.Tie as tie
 
 abbrev Inv-loop : tie.InvT-loop
-Inv-loop s j p board n set₀ e₀ set e = (e ≤ n) × (set ≡ gathered (heardSigner (contents s) j p board) e)
+Inv-loop s j p board n set₀ e₀ set e = (e ≤ n) × (set .0 ≡ gathered (heardSigner (contents s) j p board) e)
 
 abbrev μ-loop : tie.MeasureT-loop
 μ-loop s j p board n set₀ e₀ set e = n - e

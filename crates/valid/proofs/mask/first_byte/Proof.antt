@@ -3,7 +3,7 @@ use Prim.Native.Nat.{_%_}
 use native.Mathlib.Omega.{arith}
 use lib.Pow.{pow-pos}
 use borrow.Author.Needs.{needs}
-use Rattle.bits.proofs.Row.{shl-one}
+use Rattle.base.proofs.Masks.{shifted}
 use Rattle.valid.proofs.Masks.{first-full, first-past, first-last}
 use Rattle.valid.proofs.mask.first_byte.Statement.{statement}
 use Rattle.valid.proofs.mask.first_byte.Tie as tie
@@ -26,12 +26,12 @@ shl-result c = search needs
 sub-result : tie.Need-sub-result
 sub-result c =
     let rest = c .before .before .before .before .args .n % 8 in
-    rw (shl-one 8 rest (omega arith)) (omega (arith, pow-pos rest))
+    rw (shifted 8 rest (omega arith)) (omega (arith, pow-pos rest))
 
 returns-3 : tie.Need-returns-3
 returns-3 c =
     let rest = c .before .before .before .before .args .n % 8 in
-    rw (shl-one 8 rest (omega arith)) (first-last _ _ (omega arith))
+    rw (shifted 8 rest (omega arith)) (first-last _ _ (omega arith))
 
 pub first-byte-spec : {M : Type 1} → statement M
 first-byte-spec =

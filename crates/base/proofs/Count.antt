@@ -1,13 +1,14 @@
 -- How many bits of a number are 1: the members of a set of peers, counted by the machine.
-use Prim.Native.Nat.{ℕ, zero, suc, _+_, _*_, _^_}
+use Prim.Native.Nat.{ℕ, zero, suc, _+_, _*_, _^_, _<_}
 use native.Mathlib.Numerals.{add-one}
 use native.Mathlib.Omega.{arith}
 use mathlib.Core.Bool.{Bool, true, false, cond}
-use mathlib.Core.Path.{_≡_, refl, ap, _∙_}
+use mathlib.Core.Path.{_≡_, refl, sym, ap, _∙_}
 use lib.Count as machine
-use Rattle.base.specs.Bits.{digit, pack}
+use Rattle.base.specs.Bits.{digit, pack, member}
 use Rattle.base.specs.Weight.{weight, ones}
 use Rattle.base.proofs.Bits.{pack-more, pack-lt}
+use Rattle.base.proofs.Members.{pack-members}
 
 no-ones : (f : ℕ → Bool) → machine.ones (pack 0 f) ≡ 0
 unfolding pack machine.ones machine.onesIn
@@ -32,3 +33,7 @@ ones-pack (suc n) S = top ∙ machine.ones-cat n (digit (f n)) (pack n f) (pack-
 
     member : machine.ones (digit (f n)) ≡ cond (S (suc n)) 1 0
     member = rw (← add-one n) (one-digit (f n))
+
+-- the members of a set that is below 2 ^ n
+pub ones-members : (n set : ℕ) → set < 2 ^ n → machine.ones set ≡ weight ones n (member set)
+ones-members n set l = ap machine.ones (sym (pack-members n set l)) ∙ ones-pack n (member set)
