@@ -14,6 +14,8 @@
  * Threads: there are no globals and no call keeps a pointer, so calls on
  *   distinct buffers may run in parallel; a buffer that is written belongs to
  *   one call at a time.
+ * Linking: nothing is allocated, and of the C library only memcpy and memset
+ *   are called.
  * Refusals: a refused call alters no byte of the state.
  */
 #ifndef BOARD_H
