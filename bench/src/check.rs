@@ -1,8 +1,8 @@
 //! That both engines do the same, before anything is timed.
 
-use crate::engines::{Engine, PLAIN, PROVED};
 use crate::{parts, OUT};
 use engine::layout::LENGTH;
+use engine::{Engine, PLAIN, PROVED};
 use inputs::random::Random;
 use std::path::Path;
 

@@ -9,8 +9,9 @@ pub const STEP_LENGTH: usize = 13;
 /// Where the board's 8 bytes begin.
 const BOARD: usize = 5;
 
+/// A field of a step, as the text has it.
 #[derive(Clone, Copy, PartialEq)]
-enum Field {
+pub enum Field {
     Peer,
     Other,
     Period,
@@ -43,7 +44,21 @@ const OPS: [(&str, &[Field]); 18] = [
     ("up", &[Peer]),
 ];
 
-/// Where a field of one byte stands in the step.
+/// The five fields after the op by their names; an entry stands as an item.
+pub const FIELDS: [(&str, Field); 5] =
+    [("peer", Peer), ("other", Other), ("period", Period), ("item", Item), ("board", Board)];
+
+/// The name of an op and the fields that it uses; none if there is no such op.
+pub fn op(number: u8) -> Option<(&'static str, &'static [Field])> {
+    OPS.get((number as usize).checked_sub(1)?).copied()
+}
+
+/// The number of the last op.
+pub fn last_op() -> usize {
+    OPS.len()
+}
+
+/// Where a field stands in the step.
 fn place(field: Field) -> usize {
     match field {
         Peer => 1,
@@ -52,6 +67,19 @@ fn place(field: Field) -> usize {
         Item | Entry => 4,
         Board => BOARD,
     }
+}
+
+/// What a field of 13 bytes holds: a number, or a board as a set of bits.
+pub fn value(bytes: &[u8], field: Field) -> u64 {
+    match field {
+        Board => bytes[BOARD..].iter().fold(0, |sum, byte| sum << 8 | *byte as u64),
+        _ => bytes[place(field)] as u64,
+    }
+}
+
+/// The items of a board that is a set of bits: bit i, worth 2^i, is item i.
+pub fn items_of(board: u64) -> impl Iterator<Item = usize> {
+    (0..64).filter(move |i| board >> i & 1 == 1)
 }
 
 /// The bytes of a step line: 13, or fewer for a short `raw`.
@@ -123,24 +151,29 @@ fn named_step(bytes: &[u8]) -> Option<String> {
     if bytes.len() != STEP_LENGTH {
         return None;
     }
-    let op = (bytes[0] as usize).checked_sub(1)?;
-    let (name, fields) = OPS.get(op)?;
-    let unused = |at: &usize| !fields.iter().any(|field| place(*field) == (*at).min(BOARD));
-    if (1..STEP_LENGTH).filter(unused).any(|at| bytes[at] != 0) {
+    let (name, fields) = op(bytes[0])?;
+    if !unused(bytes, fields).is_empty() {
         return None;
     }
     let written: String = fields.iter().map(|field| write_field(*field, bytes)).collect();
     Some(format!("{name}{written}"))
 }
 
+/// The fields of 13 bytes that are not 0 although they are not among those
+/// that the op uses, by their names.
+pub fn unused(bytes: &[u8], uses: &[Field]) -> Vec<(&'static str, u64)> {
+    let used = |field: Field| uses.iter().any(|other| place(*other) == place(field));
+    let values = FIELDS.iter().filter(|(_, field)| !used(*field));
+    values.map(|(name, field)| (*name, value(bytes, *field))).filter(|(_, v)| *v != 0).collect()
+}
+
 fn write_field(field: Field, bytes: &[u8]) -> String {
+    let value = value(bytes, field);
     match field {
         Board => {
-            let board = bytes[BOARD..].iter().fold(0u64, |sum, byte| sum << 8 | *byte as u64);
-            let items = (0..64).filter(|i| board >> i & 1 == 1);
-            " board".to_string() + &items.map(|i| format!(" {i}")).collect::<String>()
+            " board".to_string() + &items_of(value).map(|i| format!(" {i}")).collect::<String>()
         }
-        Entry => format!(" entry {}", bytes[place(field)]),
-        _ => format!(" {}", bytes[place(field)]),
+        Entry => format!(" entry {value}"),
+        _ => format!(" {value}"),
     }
 }

@@ -1,15 +1,19 @@
 //! The rehearsal, from input bytes to the report's bytes.
 
-use super::advance::advance;
-use super::state::{State, BOARD};
-use super::table::Table;
+use crate::advance::advance;
+use crate::state::{State, BOARD, SIZE};
+use crate::table::Table;
 
 const MOST_INPUT: usize = 65_536;
 const STEP: usize = 13;
 
 /// Writes the report and answers its length: as many bytes as there is room
 /// for are written. The state holds what the steps led to.
+/// With a state of a wrong length nothing is done, and the length is 0.
 pub fn rehearse(input: &[u8], state: &mut [u8], out: &mut [u8]) -> usize {
+    if state.len() != SIZE {
+        return 0;
+    }
     let mut lines = Lines { out, length: 0 };
     match Run::over(input, state) {
         Ok((mut run, steps)) => run.report(&mut lines, steps),

@@ -1,10 +1,10 @@
 //! The inner step: judged and done on a state that is valid, in place.
 
-use super::form::{read, Fields};
-use super::guards::*;
-use super::state::{Entry, State, BACKING, BOARD, HASH};
-use super::table::Table;
-use super::Done;
+use crate::form::{read, Fields};
+use crate::guards::*;
+use crate::state::{Entry, State, BACKING, BOARD, HASH};
+use crate::table::Table;
+use crate::Done;
 
 /// A step on a valid state. `clashes` gives an item's clash mask.
 pub fn advance(

@@ -1,5 +1,7 @@
 //! The words of a line, read one after the other.
 
+use crate::written::Source;
+
 /// A line that has words, by its number in the text.
 pub struct Line<'a> {
     pub number: usize,
@@ -20,6 +22,11 @@ impl<'a> Line<'a> {
     /// The line's first word.
     pub fn name(&self) -> &'a str {
         self.words[0]
+    }
+
+    /// The line as written, without its comment.
+    pub fn source(&self) -> Source {
+        Source { line: self.number, words: self.words.join(" ") }
     }
 
     pub fn error(&self, message: &str) -> String {

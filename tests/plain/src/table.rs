@@ -1,6 +1,6 @@
 //! The ballot table: refusals 1 to 4, and which items clash.
 
-use super::differ::all_differ;
+use crate::differ::all_differ;
 
 const LEAST: [u8; 16] = [1, 2, 3, 3, 4, 5, 5, 6, 7, 7, 8, 9, 9, 10, 11, 11];
 const HEADER: usize = 6;

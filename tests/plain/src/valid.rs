@@ -1,8 +1,8 @@
 //! Row 14: whether bytes of the right length are a state of the table.
 
-use super::differ::all_differ;
-use super::state::{Entry, Sets, State, BACKING, BOARD, HASH, MOST_ENTRIES};
-use super::table::Table;
+use crate::differ::all_differ;
+use crate::state::{Entry, Sets, State, BACKING, BOARD, HASH, MOST_ENTRIES};
+use crate::table::Table;
 use std::mem::{offset_of, size_of, size_of_val};
 
 pub fn is_state(table: &Table, bytes: &[u8]) -> bool {

@@ -1,7 +1,7 @@
 //! What cannot be read is said on standard error, with the line and what was
 //! expected there; the exit status is 1.
 
-use rehearsal::{bytes, text};
+use scribe::{bytes, text};
 use std::io::Write;
 use std::process::{Command, Output, Stdio};
 
@@ -87,7 +87,7 @@ fn tables_without_text() {
 
 /// The program itself, with this standard input.
 fn program(arguments: &[&str], input: &[u8]) -> Output {
-    let mut child = Command::new(env!("CARGO_BIN_EXE_rehearsal"))
+    let mut child = Command::new(env!("CARGO_BIN_EXE_scribe"))
         .args(arguments)
         .stdin(Stdio::piped())
         .stdout(Stdio::piped())
@@ -106,11 +106,11 @@ fn the_program() {
     let back = program(&["text"], &[1, 1, 0, 1, 1, 0]);
     assert_eq!((back.status.code(), back.stdout), (Some(0), format!("{HEADER}\n").into_bytes()));
     let failures: [(&[&str], &[u8], &str); 5] = [
-        (&["bytes"], b"peers", "rehearsal: line 1: expected a number of peers"),
-        (&["bytes"], b"peers 1\n\xFF", "rehearsal: line 2: expected text in UTF-8"),
-        (&["text"], b"", "rehearsal: no text for this table: header of 0 bytes, not 6"),
-        (&[], b"", "rehearsal: usage: rehearsal bytes"),
-        (&["both"], b"", "rehearsal: usage: rehearsal bytes"),
+        (&["bytes"], b"peers", "scribe: line 1: expected a number of peers"),
+        (&["bytes"], b"peers 1\n\xFF", "scribe: line 2: expected text in UTF-8"),
+        (&["text"], b"", "scribe: no text for this table: header of 0 bytes, not 6"),
+        (&[], b"", "scribe: usage: scribe bytes"),
+        (&["both"], b"", "scribe: usage: scribe bytes"),
     ];
     for (arguments, input, message) in failures {
         let output = program(arguments, input);

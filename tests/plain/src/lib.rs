@@ -1,4 +1,4 @@
-//! The same rules as a hand-written engine has them: fast, and without proofs.
+//! The rules as a hand-written engine has them: fast, and without proofs.
 //!
 //! - `table`: the ballot table, refusals 1 to 4, clash masks
 //! - `state`: the bytes of docs/STATE.md as a struct

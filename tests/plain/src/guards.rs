@@ -1,8 +1,8 @@
 //! The refusals that several ops share, and what they look at.
 
-use super::state::{Entry, State, MOST_ENTRIES};
-use super::table::Table;
-use super::Done;
+use crate::state::{Entry, State, MOST_ENTRIES};
+use crate::table::Table;
+use crate::Done;
 
 pub const FORM: u8 = 5;
 pub const NAME: u8 = 6;

@@ -1,6 +1,6 @@
 //! Text to bytes and back: nothing is lost either way.
 
-use rehearsal::{bytes, text};
+use scribe::{bytes, text};
 
 const EVERY_NAME: &str = "\
 peers 4 threshold 3 honest 1 2 3 periods 2
