@@ -12,11 +12,10 @@ mod check;
 mod engines;
 mod measure;
 mod ops;
-mod protocol;
 
 use inputs::answers::ROWS;
+use inputs::protocol::PROTOCOLS;
 use measure::{Bench, CALLS};
-use protocol::{make, SHAPES};
 use std::collections::BTreeMap;
 use std::fs;
 use std::path::Path;
@@ -44,9 +43,8 @@ fn main() {
 }
 
 fn write_inputs(folder: &Path) {
-    for shape in &SHAPES {
-        let (input, _) = make(shape);
-        fs::write(folder.join(shape.name), input).expect("a folder to write to");
+    for protocol in &PROTOCOLS {
+        fs::write(folder.join(protocol.name), protocol.input()).expect("a folder to write to");
     }
 }
 
@@ -67,10 +65,10 @@ fn count(engine: &str, call: &str, input: &str, op: Option<u8>) {
 
 fn print_times(cases: &Path) {
     println!("cases: {} reports as stored, from both engines", check::cases(cases));
-    for shape in &SHAPES {
-        let (input, answers) = make(shape);
-        check::input(&input, &answers);
-        println!("\n{}: {} bytes, {} steps", shape.name, input.len(), answers.len());
+    for protocol in &PROTOCOLS {
+        let input = protocol.input();
+        let answers = check::input(&input);
+        println!("\n{}: {} bytes, {} steps", protocol.name, input.len(), answers.len());
         print_mix(&input, &answers);
         println!("{:24} {:>10} {:>10} {:>7}", "nanoseconds", "plain", "proved", "ratio");
         let mut bench = Bench::over(&input);

@@ -8,6 +8,7 @@ use inputs::kinds::{rehearsal, round};
 use inputs::random::run_seed;
 use inputs::rehearsed::Rehearsed;
 use scribe::explain::{explain_bytes, is_text, Which};
+use scribe::reasons::NO_REASON;
 use std::collections::BTreeMap;
 
 /// As many rounds as `rehearsals` has.
@@ -54,7 +55,7 @@ fn answers_of_the_proved_program_and_a_reason_for_each() {
         let (told, report) = (told(&explanation), report(&input));
         let numbers: Vec<&str> = told.iter().map(|(answer, _)| number(answer)).collect();
         assert_eq!(numbers, reported(&report), "{place}");
-        let missing = told.iter().position(|(_, reason)| *reason == "no reason is known");
+        let missing = told.iter().position(|(_, reason)| *reason == NO_REASON);
         assert_eq!(missing, None, "{place}: {explanation}");
         let rehearsed = Rehearsed::new(&input);
         answers.count_all(&rehearsed);

@@ -80,7 +80,7 @@ fn unused(op: u8) -> Vec<usize> {
 }
 
 /// Any op, with its fields anywhere in range or one beyond.
-fn uniform(random: &mut Random, table: &Table) -> Vec<u8> {
+pub fn uniform(random: &mut Random, table: &Table) -> Vec<u8> {
     let op = random.between(1, last_op() as usize) as u8;
     let ends = [table.n + 1, table.n + 1, table.periods, table.m()];
     let mut step = vec![op];

@@ -3,7 +3,7 @@
 
 use crate::reasons::input::{why, Fault, Place};
 use crate::reasons::phrases::{comma_list, count, word};
-use crate::reasons::{Telling, Told};
+use crate::reasons::{Telling, Told, NO_REASON};
 use crate::steps::{write_step, STEP_LENGTH};
 use crate::{read, Written};
 use reference::report::INPUT_SIZE;
@@ -66,7 +66,7 @@ fn told_refusal(input: &[u8], written: Option<&Written>, refusal: Refusal) -> Ve
         (None, Some(Place::Input)) => "input".to_string(),
         (None, _) => "table".to_string(),
     };
-    let fact = fault.map_or("no reason is known".to_string(), |Fault { fact, .. }| fact);
+    let fact = fault.map_or(NO_REASON.to_string(), |Fault { fact, .. }| fact);
     vec![head, format!("    refused {} {}: {fact}", refusal.number(), word(refusal))]
 }
 

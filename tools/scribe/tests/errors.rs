@@ -1,9 +1,7 @@
-//! What cannot be read is said on standard error, with the line and what was
-//! expected there; the exit status is 1.
+//! What cannot be read is an error that has the line and what was expected
+//! there.
 
 use scribe::{bytes, text};
-use std::io::Write;
-use std::process::{Command, Output, Stdio};
 
 const HEADER: &str = "peers 1 threshold 1 honest 1 periods 1";
 
@@ -83,39 +81,4 @@ fn tables_without_text() {
     assert_eq!(error(&offset), format!("{start}: pair 0 has offset 11, not 10"));
     let end = [1, 1, 0, 1, 1, 1, 0, 10, 0, 5, 0];
     assert_eq!(error(&end), format!("{start}: item 0 ends at 15, the input at 11"));
-}
-
-/// The program itself, with this standard input.
-fn program(arguments: &[&str], input: &[u8]) -> Output {
-    let mut child = Command::new(env!("CARGO_BIN_EXE_scribe"))
-        .args(arguments)
-        .stdin(Stdio::piped())
-        .stdout(Stdio::piped())
-        .stderr(Stdio::piped())
-        .spawn()
-        .unwrap();
-    // A program that fails early may not read its input: that is no fault.
-    let _ = child.stdin.take().unwrap().write_all(input);
-    child.wait_with_output().unwrap()
-}
-
-#[test]
-fn the_program() {
-    let good = program(&["bytes"], HEADER.as_bytes());
-    assert_eq!((good.status.code(), good.stdout), (Some(0), vec![1, 1, 0, 1, 1, 0]));
-    let back = program(&["text"], &[1, 1, 0, 1, 1, 0]);
-    assert_eq!((back.status.code(), back.stdout), (Some(0), format!("{HEADER}\n").into_bytes()));
-    let failures: [(&[&str], &[u8], &str); 5] = [
-        (&["bytes"], b"peers", "scribe: line 1: expected a number of peers"),
-        (&["bytes"], b"peers 1\n\xFF", "scribe: line 2: expected text in UTF-8"),
-        (&["text"], b"", "scribe: no text for this table: header of 0 bytes, not 6"),
-        (&[], b"", "scribe: usage: scribe bytes"),
-        (&["both"], b"", "scribe: usage: scribe bytes"),
-    ];
-    for (arguments, input, message) in failures {
-        let output = program(arguments, input);
-        assert_eq!((output.status.code(), output.stdout), (Some(1), Vec::new()));
-        let error = String::from_utf8(output.stderr).unwrap();
-        assert!(error.starts_with(message), "{error}");
-    }
 }

@@ -1,5 +1,6 @@
 //! Text to bytes and back: nothing is lost either way.
 
+use inputs::random::Random;
 use scribe::{bytes, text};
 
 const EVERY_NAME: &str = "\
@@ -30,22 +31,6 @@ up 1
 raw 0C 01 00 00 00 00 00 00 00 00 00 00 00
 raw 01 00
 ";
-
-/// The generator of the tests: xorshift with a fixed seed.
-struct Random(u64);
-
-impl Random {
-    fn next(&mut self) -> u64 {
-        self.0 ^= self.0 << 13;
-        self.0 ^= self.0 >> 7;
-        self.0 ^= self.0 << 17;
-        self.0
-    }
-
-    fn below(&mut self, bound: u64) -> usize {
-        ((self.next() >> 11) % bound) as usize
-    }
-}
 
 #[test]
 fn every_name_comes_back_as_written() {
@@ -96,7 +81,7 @@ fn bad_values_come_back() {
 
 /// A table with random items, then random steps and a random tail.
 fn random_input(random: &mut Random) -> Vec<u8> {
-    let mut input: Vec<u8> = (0..5).map(|_| random.next() as u8).collect();
+    let mut input: Vec<u8> = random.bytes(5);
     let m = random.below(6);
     input.push(m as u8);
     let mut offset = 6 + 4 * m;
@@ -106,7 +91,7 @@ fn random_input(random: &mut Random) -> Vec<u8> {
         input.extend([(offset >> 8) as u8, offset as u8, 0, length as u8]);
         items.extend((0..length).map(|at| match at {
             4 => random.below(5) as u8,
-            _ => random.next() as u8,
+            _ => random.bits() as u8,
         }));
         offset += length;
     }
@@ -114,17 +99,17 @@ fn random_input(random: &mut Random) -> Vec<u8> {
     for _ in 0..random.below(30) {
         input.push(random.below(21) as u8);
         input.extend((0..12).map(|_| match random.below(3) {
-            0 => random.next() as u8,
+            0 => random.bits() as u8,
             _ => 0,
         }));
     }
-    input.extend((0..random.below(13)).map(|_| random.next() as u8));
+    input.extend((0..random.below(13)).map(|_| random.bits() as u8));
     input
 }
 
 #[test]
 fn random_inputs_come_back() {
-    let mut random = Random(88_172_645_463_325_252);
+    let mut random = Random::new(1, 0);
     let mut named = 0;
     for _ in 0..5000 {
         let input = random_input(&mut random);

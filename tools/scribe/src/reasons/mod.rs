@@ -11,7 +11,7 @@ pub mod input;
 mod news;
 pub mod phrases;
 mod quorum;
-mod refusals;
+pub mod refusals;
 mod short;
 mod unknown;
 
@@ -19,6 +19,9 @@ use reference::state::State;
 use reference::step::call;
 use reference::table::Table;
 use reference::Refusal;
+
+/// Stands where a reason should; no step and no input may come to it.
+pub const NO_REASON: &str = "no reason is known";
 
 /// What is told of a step.
 pub struct Told {
@@ -36,7 +39,7 @@ impl Told {
     /// "12 short: ..", "0 done: .."
     pub fn line(&self) -> String {
         let word = self.refusal.map_or("done", phrases::word);
-        let reason = self.reason.as_deref().unwrap_or("no reason is known");
+        let reason = self.reason.as_deref().unwrap_or(NO_REASON);
         format!("{} {word}: {reason}", self.answer())
     }
 }

@@ -104,8 +104,11 @@ fn role(table: &Table, step: Step) -> Reason {
     }
 }
 
-/// 8: the peer, or for a fetch the other.
+/// 8: the peer, or for a fetch the other; but a down peer may go down or up.
 fn down(state: &State, step: Step) -> Reason {
+    if matches!(step, Step::Down { .. } | Step::Up { .. }) {
+        return None;
+    }
     let peer = doers(step).into_iter().find(|peer| !state.peer(*peer).up)?;
     Some(format!("peer {peer} is down"))
 }

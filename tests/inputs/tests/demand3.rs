@@ -1,32 +1,76 @@
 //! Demand 3 on random runs: the posts, receipts and boards held outside are
 //! those of the ideal board, every move of which was allowed.
 
-mod common;
-
-use common::random_runs::RandomRun;
-use common::Random;
-use reference::ideal::reaches_honest_share;
+use inputs::making::Making;
+use inputs::random::Random;
+use inputs::tables::Shape;
+use reference::form::{read_step, Step};
+use reference::ideal::{reaches_honest_share, IdealBoard};
 use reference::state::State;
 use reference::step::step;
+use reference::table::Table;
 use std::collections::{BTreeMap, BTreeSet};
 
-const RUNS: u64 = 10_000;
+const RUNS: usize = 10_000;
+
+/// A run with what it came to, on the reference and on the ideal board.
+struct Run {
+    table: Table,
+    state: State,
+    ideal: IdealBoard,
+    /// Every call with its answer.
+    calls: Vec<(Vec<u8>, u8)>,
+}
+
+impl Run {
+    /// A random run on a table of so many peers.
+    fn random(number: usize, n: usize, t: usize, honest: usize, bursts: usize) -> Run {
+        let mut random = Random::new(SEED, number);
+        let shape = Shape { n, periods: random.between(1, 3), m: random.between(1, 9) };
+        let text = shape.table_with(&mut random, t, n - honest);
+        let mut making = Making::on(&mut random, text);
+        making.run_in_bursts(bursts);
+        Run::of(making.table, making.steps)
+    }
+
+    fn of(table: Table, steps: Vec<Vec<u8>>) -> Run {
+        let (state, ideal) = (State::fresh(&table), IdealBoard::new(&table));
+        let mut run = Run { table, state, ideal, calls: Vec::new() };
+        steps.into_iter().for_each(|bytes| run.call(bytes));
+        run
+    }
+
+    /// One step call; the ideal board is fed what document 01 lets it see.
+    /// Now and then the state is kept, to see that a refusal alters nothing.
+    fn call(&mut self, bytes: Vec<u8>) {
+        let backing = match read_step(&bytes) {
+            Ok(Step::Publish { entry }) => self.state.backing(entry),
+            _ => None,
+        };
+        let before = self.calls.len().is_multiple_of(20).then(|| self.state.clone());
+        let answer = step(&self.table, &mut self.state, &bytes);
+        assert!(answer == 0 || before.is_none_or(|state| state == self.state));
+        let told = backing.filter(|_| answer == 0);
+        self.ideal.feed(&self.table, &bytes, answer, told);
+        self.calls.push((bytes, answer));
+    }
+}
+
+/// The runs are the same ones each time.
+const SEED: u64 = 3;
 
 /// A run under the premise: t honest peers of n, and 3t > 2n.
-fn run_under_premise(seed: u64) -> RandomRun {
-    let mut random = Random::new(seed);
+fn run_under_premise(number: usize) -> Run {
+    let mut random = Random::new(!SEED, number);
     let most = if random.chance(10) { 16 } else { 6 };
     let n = random.between(1, most);
     let t = random.between(2 * n / 3 + 1, n);
-    let honest_count = random.between(t, n);
-    let bursts = random.between(5, 30);
-    let mut run = RandomRun::new(random, n, t, honest_count);
-    run.go(bursts);
-    run
+    let honest = random.between(t, n);
+    Run::random(number, n, t, honest, random.between(5, 30))
 }
 
 /// The single claim: equal posts, receipts and boards, every move allowed.
-fn equals_ideal_board(run: &RandomRun) -> bool {
+fn equals_ideal_board(run: &Run) -> bool {
     run.ideal.all_allowed
         && run.ideal.posts == run.state.posted
         && run.ideal.receipts == run.state.receipts
@@ -36,9 +80,9 @@ fn equals_ideal_board(run: &RandomRun) -> bool {
 #[test]
 fn the_ideal_board_on_random_runs() {
     let mut tally = Tally::default();
-    for seed in 1..=RUNS {
-        let run = run_under_premise(seed);
-        assert!(equals_ideal_board(&run), "seed {seed}");
+    for number in 0..RUNS {
+        let run = run_under_premise(number);
+        assert!(equals_ideal_board(&run), "run {number}");
         no_clash_outside(&run);
         one_board_a_period(&run);
         receipted_items_are_on_the_board(&run);
@@ -51,7 +95,7 @@ fn the_ideal_board_on_random_runs() {
 }
 
 /// No two clashing items among all receipts and published boards.
-fn no_clash_outside(run: &RandomRun) {
+fn no_clash_outside(run: &Run) {
     let mut items: BTreeSet<usize> = run.state.receipts.iter().map(|(_, item)| *item).collect();
     for (_, board) in run.state.boards() {
         items.extend(board);
@@ -61,13 +105,13 @@ fn no_clash_outside(run: &RandomRun) {
     }
 }
 
-fn one_board_a_period(run: &RandomRun) {
+fn one_board_a_period(run: &Run) {
     let boards = run.state.boards();
     let periods: BTreeSet<usize> = boards.iter().map(|(period, _)| *period).collect();
     assert_eq!(periods.len(), boards.len());
 }
 
-fn receipted_items_are_on_the_board(run: &RandomRun) {
+fn receipted_items_are_on_the_board(run: &Run) {
     for (period, board) in run.state.boards() {
         for (_, item) in run.state.receipts.iter().filter(|(q, _)| *q == period) {
             assert!(board.contains(item));
@@ -76,7 +120,7 @@ fn receipted_items_are_on_the_board(run: &RandomRun) {
 }
 
 /// By at least t + h − n of the h honest peers, in that period.
-fn board_items_are_posted_and_signed(run: &RandomRun) {
+fn board_items_are_posted_and_signed(run: &Run) {
     for (period, board) in run.state.boards() {
         for item in board {
             assert!(run.ideal.posts.contains(&item));
@@ -87,7 +131,7 @@ fn board_items_are_posted_and_signed(run: &RandomRun) {
 
 /// The same calls once more: the same answers, and after each of them the
 /// boards are the first ones of those at the end.
-fn boards_stand_unchanged(run: &RandomRun) {
+fn boards_stand_unchanged(run: &Run) {
     let last = run.state.boards();
     let mut state = State::fresh(&run.table);
     for (bytes, answer) in &run.calls {
@@ -112,7 +156,7 @@ struct Tally {
 }
 
 impl Tally {
-    fn add(&mut self, run: &RandomRun) {
+    fn add(&mut self, run: &Run) {
         self.steps += run.calls.len();
         for (_, answer) in &run.calls {
             *self.answers.entry(*answer).or_default() += 1;
@@ -138,7 +182,7 @@ impl Tally {
 }
 
 /// Whether a receipt was first made after its period's board.
-fn receipt_after_board(run: &RandomRun) -> bool {
+fn receipt_after_board(run: &Run) -> bool {
     let mut state = State::fresh(&run.table);
     for (bytes, _) in &run.calls {
         let before = state.receipts.clone();
@@ -153,7 +197,7 @@ fn receipt_after_board(run: &RandomRun) -> bool {
 }
 
 /// Whether a hand was refused for a clash with an item of an earlier period.
-fn late_clash(run: &RandomRun) -> bool {
+fn late_clash(run: &Run) -> bool {
     let mut state = State::fresh(&run.table);
     for (bytes, answer) in &run.calls {
         if *answer == 11 {
@@ -174,9 +218,8 @@ fn late_clash(run: &RandomRun) -> bool {
 #[test]
 fn too_few_honest_peers_break_it() {
     let mut broken = 0;
-    for seed in 1..=500 {
-        let mut run = RandomRun::new(Random::new(seed), 4, 3, 2);
-        run.go(25);
+    for number in 0..500 {
+        let run = Run::random(number, 4, 3, 2, 25);
         broken += !equals_ideal_board(&run) as usize;
     }
     println!("broken {broken} of 500");
