@@ -10,11 +10,11 @@ use Rattle.base.specs.Weight.{weight, ones}
 use Rattle.header.specs.declared.Head.{Head}
 
 -- the header's length in bytes, the same for every table
-abbrev pub headerSize : List ℕ → ℕ
+unfoldable pub headerSize : List ℕ → ℕ
 headerSize s = 6
 
 -- byte i of the header: every field is read through it
-abbrev pub fieldOf : List ℕ → ℕ → ℕ
+unfoldable pub fieldOf : List ℕ → ℕ → ℕ
 fieldOf s i = byteAt s i
 
 -- n, the number of peers
