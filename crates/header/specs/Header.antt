@@ -72,4 +72,6 @@ fieldsOk n t honest periods items = thresholdOk n t && (noneAbove n honest && (b
 
 -- the header is whole, and every field of it is in range
 unfoldable pub headerOk : List ℕ → Bool
-headerOk s = leb (headerSize s) (length s) && fieldsOk (peersOf s) (thresholdOf s) (honestOf s) (periodsOf s) (itemsOf s)
+headerOk s =
+    leb (headerSize s) (length s)
+    && fieldsOk (peersOf s) (thresholdOf s) (honestOf s) (periodsOf s) (itemsOf s)
