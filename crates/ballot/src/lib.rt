@@ -1,4 +1,4 @@
-// The ballot table: its header, its pairs and its items, read from lent bytes, and the first refusal of 1 to 4 that applies.
+// The ballot table: its header, pairs and items, read from lent bytes, and the first refusal of 1 to 4 that applies.
 // An item's text is handed on as the part of the table that it is; nothing is copied, and no byte is changed.
 // It uses header and pairs to read the table, and base.
 ghost use mathlib.Core.Path.{_≡_};

@@ -1,4 +1,4 @@
-// When two items clash: by their kinds, by their texts and by their numbers; and the rows of clashes, made once for a table.
+// When two items clash: by their kinds, their texts and their numbers; and the rows of clashes, made once for a table.
 // It uses ballot to read items, header for their number, and base.
 ghost use mathlib.Core.Path.{_≡_};
 ghost use Rattle.clash.specs.Clash.{isVote, isCancellation, kindsClash, itemsClash, readingsClash};

@@ -1,4 +1,4 @@
--- `hand_out` meets its contract: a walk of its code, by hand. The struct is taken apart, and `item_below` is called on its slice and numbers.
+-- `hand_out` meets its contract: a walk of its code, by hand. The struct is taken apart, and `item_below` is called on its fields.
 -- The struct is Copy: what it owns is had twice. One copy is kept whole for the exit. Of the other, what `table` owns goes to the callee,
 -- beside the lifetime's token, which comes back. What the result owns is what the callee gives. Of the callee only its contract is known.
 use mathlib.Core.Path.{_≡_, refl}

@@ -1,5 +1,5 @@
 -- `item_at` meets its contract: a walk of its code, by hand. The reader that `over` makes is held in a local and passed to `hand_out`.
--- Of the two callees only their contracts are known. A `&[u8]` is Copy: what the table owns is had twice, for `over` and for `table` at exit.
+-- Of the two callees only their contracts are known. A `&[u8]` is Copy: what the table owns is had twice, for `over` and for the exit.
 -- In a local the struct's type has its lifetime erased, and what the struct owns does not say the lifetime's name.
 use mathlib.Core.Path.{_≡_, refl, ap, _∙_}
 use Prim.Native.Nat.{ℕ, _<_, _^_}
