@@ -67,7 +67,8 @@ unfolding first
 never n [] z w e = z (sym e)
 never n (r ∷ rest) z w e = go (either (eqb (numberOf (r .0)) n)) (either (r .1)) (never n rest z)
   where
-    go : (eqb (numberOf (r .0)) n ≡ true) ⊎ (eqb (numberOf (r .0)) n ≡ false) → (r .1 ≡ true) ⊎ (r .1 ≡ false) → (Without n rest → first (numbered rest) ≡ n → ⊥) → ⊥
+    go : (eqb (numberOf (r .0)) n ≡ true) ⊎ (eqb (numberOf (r .0)) n ≡ false) → (r .1 ≡ true) ⊎ (r .1 ≡ false)
+        → (Without n rest → first (numbered rest) ≡ n → ⊥) → ⊥
     go (inl q) (inl t) next = split t ((rw q at w) .0)
     go (inl q) (inr f) next = next ((rw q at w) .1) (rw f at e)
     go (inr q) (inl t) next = split (eq-eqb (numberOf (r .0)) n (rw t at e)) q

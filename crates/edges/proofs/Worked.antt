@@ -25,7 +25,9 @@ use Rattle.edges.specs.Worked.{Ends, Ideally, RulesEnd, RulesIdeally, Wo
 use Rattle.edges.proofs.Premise.{meets}
 
 pub worked-runs : WorkedRuns
-unfolding first any every bit pack numberAt add1 add2 add3 add4 setAt weight clashing sameEntry isIn enter isFull boardsIn allZero formed select ops laterOps read boardFrom addRows rule answer next reply leave isThere hasBoard onBoard mayReceive mayReceipt mayPublish nowEnough move feed ideal deed deedOf backingNamed seenWith runFrom after answersFrom
+unfolding first any every bit pack numberAt add1 add2 add3 add4 setAt weight clashing sameEntry isIn enter isFull boardsIn allZero formed
+    select ops laterOps read boardFrom addRows rule answer next reply leave isThere hasBoard onBoard mayReceive mayReceipt mayPublish
+    nowEnough move feed ideal deed deedOf backingNamed seenWith runFrom after answersFrom
 worked-runs = record {
   case-r = record { answered = refl; signed = refl; receipted = refl; published = refl };
   case-r-ideal = record { receipted = refl; published = refl; allowed = refl };
@@ -43,7 +45,8 @@ worked-runs = record {
 }
 
 module _ {T : Table} {X : Type 0} {E : Engine X} {Ready : X → Type 0} (F : Follows T E Ready) {w : Worked} where
-  pub follower-ends : {signers : List (ℕ × ℕ × ℕ × ℕ)} {receipts boards : List (ℕ × ℕ)} → RulesEnd T w signers receipts boards → Ends T E w signers receipts boards
+  pub follower-ends : {signers : List (ℕ × ℕ × ℕ × ℕ)} {receipts boards : List (ℕ × ℕ)} → RulesEnd T w signers receipts boards
+      → Ends T E w signers receipts boards
   follower-ends R = record {
     answered = answered-as-ruled F (calls w) ∙ R .answered;
     signed = rw (as-ruled F) (R .signed);
@@ -51,5 +54,10 @@ module _ {T : Table} {X : Type 0} {E : Engine X} {Ready : X → Type 0} (F : Fol
     published = rw (as-ruled F) (R .published);
   }
 
-  pub follower-ideally : {receipts boards : List (ℕ × ℕ)} {ok : Bool} → RulesIdeally T w receipts boards ok → Ideally T E w receipts boards ok
-  follower-ideally R = record { receipted = rw (as-ruled F) (R .receipted); published = rw (as-ruled F) (R .published); allowed = rw (as-ruled F) (R .allowed) }
+  pub follower-ideally : {receipts boards : List (ℕ × ℕ)} {ok : Bool} → RulesIdeally T w receipts boards ok
+      → Ideally T E w receipts boards ok
+  follower-ideally R = record {
+    receipted = rw (as-ruled F) (R .receipted);
+    published = rw (as-ruled F) (R .published);
+    allowed = rw (as-ruled F) (R .allowed);
+  }

@@ -11,7 +11,7 @@ use lib.ListN.{length}
 use borrow.Author.Tests.{eqb-true}
 use Rattle.base.specs.Bytes.{byteAt, numberAt}
 use Rattle.base.specs.Tab.{tab}
-use Rattle.base.proofs.Truth.{either}
+use Rattle.base.proofs.Truth.{either, false-true}
 use Rattle.base.proofs.Bytes.{number-fits, number-byte}
 use Rattle.base.proofs.Tab.{tab-getD}
 use Rattle.rules.specs.declared.Step.{Step}
@@ -19,7 +19,7 @@ use Rattle.rules.specs.declared.Step.the-variants.{Post, Hand, Sign, Take, Shar
 use Rattle.rules.specs.declared.Step.the-variants.{Hear, Back, Publish, FalseSignature, FalseShare, FalseHash, FalseBacking, Down, Up}
 use Rattle.rules.specs.declared.Call.{Call}
 use Rattle.rules.specs.declared.Call.the-variants.{Formed, Malformed}
-use Rattle.rules.specs.Form.{callNumber, allZero, formed, select, ops, laterOps, read}
+use Rattle.rules.specs.Form.{allZero, formed, select, ops, laterOps, read}
 use Rattle.rules.specs.Fields.{Fields, of, fields}
 use Rattle.form.specs.Written.{boardByte, bytesOf, written, BothWays}
 
@@ -58,8 +58,12 @@ read-written (Up j) h = refl
 
 -- bytes that are read are those of the step
 
+abbrev isStep : Call → Bool
+isStep (Formed st) = true
+isStep Malformed = false
+
 no-step : {st : Step} {A : Type 0} → Malformed ≡ Formed st → A
-no-step e = absurd (omega (arith, ap callNumber e))
+no-step e = false-true (ap isStep e)
 
 -- in a list of readings the steps beside op n have the fields f n
 Have : (ℕ → Fields) → List (ℕ × Call) → Type 0

@@ -1,4 +1,5 @@
--- The byte tables meet the premise by computation, over all numbers of peers at once; the worked runs are computed by the rules, which the engine on bytes follows.
+-- The byte tables meet the premise by computation, over all numbers of peers at once; the worked runs are computed by
+-- the rules, which the engine on bytes follows.
 use Prim.Native.Nat.{ℕ, _+_, _-_, _≤_, _<_}
 use native.Mathlib.Omega.{arith}
 use mathlib.Core.Bool.{Bool, true, _&&_}
@@ -46,11 +47,16 @@ all-good = refl
 
 barely-met : (n : ℕ) → 1 ≤ n → n ≤ 16 → Barely n
 barely-met n l m =
-    let ok = subst (λ (k : ℕ). good k ≡ true) {x = n - 1 + 1} {y = n} (omega arith) (every-at (λ k. good (k + 1)) 16 all-good (n - 1) (omega arith)) in
+    let ok = subst (λ (k : ℕ). good k ≡ true) {x = n - 1 + 1} {y = n} (omega arith)
+    (every-at (λ k. good (k + 1)) 16 all-good (n - 1) (omega arith)) in
     let rest = and-r (eqb (refusal (barely n)) 0) _ ok in
     let just = eqb-true (honestCount (headOf (barely n))) (thresholdOf (barely n)) (and-l _ (clashIn (barely n) 0 1) rest) in
     record {
-      meets = record { taken = eqb-true (refusal (barely n)) 0 (and-l _ (eqb (honestCount (headOf (barely n))) (thresholdOf (barely n)) && clashIn (barely n) 0 1) ok); honest = omega (arith, just) };
+      meets = record {
+        taken = eqb-true (refusal (barely n)) 0
+            (and-l _ (eqb (honestCount (headOf (barely n))) (thresholdOf (barely n)) && clashIn (barely n) 0 1) ok);
+        honest = omega (arith, just);
+      };
       just-enough = just;
       some-clash = and-r (eqb (honestCount (headOf (barely n))) (thresholdOf (barely n))) _ rest;
     }
@@ -69,8 +75,10 @@ pub record ByRules (table : List ℕ) (w : Worked) (signers : List (ℕ × ℕ �
   pub ideally : RulesIdeally (rulesTable table) w receipts boards true
 
 case-r : ByRules tables.caseR caseR ((1, 0, 0, 1) ∷ []) ((0, 0) ∷ []) ((0, 1) ∷ [])
-unfolding first any every bit member pack numberAt part sameBytes readItem readKind clashIn clash add1 add2 add3 add4 setAt weight clashing sameEntry isIn enter isFull boardsIn
-    allZero formed select ops laterOps read boardFrom addRows rule answer next reply leave isThere hasBoard onBoard mayReceive mayReceipt mayPublish nowEnough move feed ideal deed deedOf
+unfolding first any every bit member pack numberAt part sameBytes readItem readKind clashIn clash add1 add2 add3 add4 setAt weight
+    clashing sameEntry isIn enter isFull boardsIn
+    allZero formed select ops laterOps read boardFrom addRows rule answer next reply leave isThere hasBoard onBoard mayReceive mayReceipt
+    mayPublish nowEnough move feed ideal deed deedOf
     backingNamed seenWith runFrom after answersFrom
 case-r = record {
   ends = record { answered = refl; signed = refl; receipted = refl; published = refl };
@@ -78,8 +86,10 @@ case-r = record {
 }
 
 two-faced : ByRules (barely 4) twoFaced ((1, 0, 0, 3) ∷ (2, 0, 0, 3) ∷ (3, 0, 0, 3) ∷ (3, 0, 1, 2) ∷ []) ((0, 0) ∷ []) ((0, 1) ∷ [])
-unfolding first any every bit member pack numberAt part sameBytes readItem readKind clashIn clash add1 add2 add3 add4 setAt weight clashing sameEntry isIn enter isFull boardsIn
-    allZero formed select ops laterOps read boardFrom addRows rule answer next reply leave isThere hasBoard onBoard mayReceive mayReceipt mayPublish nowEnough move feed ideal deed deedOf
+unfolding first any every bit member pack numberAt part sameBytes readItem readKind clashIn clash add1 add2 add3 add4 setAt weight
+    clashing sameEntry isIn enter isFull boardsIn
+    allZero formed select ops laterOps read boardFrom addRows rule answer next reply leave isThere hasBoard onBoard mayReceive mayReceipt
+    mayPublish nowEnough move feed ideal deed deedOf
     backingNamed seenWith runFrom after answersFrom
 two-faced = record {
   ends = record { answered = refl; signed = refl; receipted = refl; published = refl };
@@ -89,7 +99,9 @@ two-faced = record {
 -- so they end on the bytes
 on-bytes : {table : List ℕ} {w : Worked} {signers : List (ℕ × ℕ × ℕ × ℕ)} {receipts boards : List (ℕ × ℕ)} → HonestEnough table
     → ByRules table w signers receipts boards → RunsTo table w signers receipts boards
-on-bytes {table} H R = let F = bytes-follow table (H .taken) in record { ends = follower-ends F (R .ends); ideally = follower-ideally F (R .ideally) }
+on-bytes {table} H R =
+    let F = bytes-follow table (H .taken) in
+    record { ends = follower-ends F (R .ends); ideally = follower-ideally F (R .ideally) }
 
 pub bytes-run : BytesRun
 bytes-run = record { case-r = on-bytes case-r-met case-r; two-faced = on-bytes (barely-met 4 (omega arith) (omega arith) .meets) two-faced }

@@ -63,4 +63,5 @@ module _ {T : Table} {X : Type 0} {E : Engine X} {Ready : X → Type 0} (F : Fol
   as-ruled = fun-ext (λ calls. ruled-from calls (E .starts) [] (F .starts-ready) ∙ ap (λ (s : State). ruled T s [] calls) (F .starts-fresh))
 
   pub answered-as-ruled : (calls : List (List ℕ)) → answersFrom E (E .starts) calls ≡ answersFrom (byRules T) fresh calls
-  answered-as-ruled calls = answered-from calls (E .starts) (F .starts-ready) ∙ ap (λ (s : State). answersFrom (byRules T) s calls) (F .starts-fresh)
+  answered-as-ruled calls = answered-from calls (E .starts) (F .starts-ready) ∙ ap (λ (s : State). answersFrom (byRules T) s calls)
+      (F .starts-fresh)
