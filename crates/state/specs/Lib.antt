@@ -6,3 +6,4 @@ pub mod Numbers
 pub mod Entries
 pub mod Contents
 pub mod Encode
+pub mod Sets
