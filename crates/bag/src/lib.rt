@@ -61,10 +61,11 @@ fn written_signer(s: &[u8], o: usize, kind: u8, period: u8, board: u64) -> u8
     if s[o] != kind {
         return 0;
     }
-    if bits::load(s, o + layout::BOARD_IN, layout::ITEM_BYTES) != board {
-        return 0;
+    let found = bits::load(s, o + layout::BOARD_IN, layout::ITEM_BYTES);
+    if found == board {
+        return s[o + layout::SIGNER_IN];
     }
-    s[o + layout::SIGNER_IN]
+    0
 }
 
 // The signer of entry e if it has this kind, period and board, else 0.

@@ -18,7 +18,7 @@ use Rattle.rules.specs.Form.{read}
 use Rattle.rules.specs.Rules.{reply}
 use Rattle.state.specs.Layout.{size}
 use Rattle.header.specs.declared.Head.{Head}
-use Rattle.view.specs.StateOk.{stateOk}
+use Rattle.valid.specs.StateOk.{stateOk}
 use Rattle.view.specs.Ready.{Room, Ready}
 use Rattle.valid.proofs.Ready.{ready-of-ok, ok-of-ready}
 use Rattle.steps.specs.Stepped.{Stepped}

@@ -20,7 +20,7 @@ use Rattle.state.specs.Encode.{encode}
 use Rattle.header.specs.declared.Head.{Head}
 use Rattle.view.specs.View.{tableOf, stateOf}
 use Rattle.view.specs.Effect.{effectOn}
-use Rattle.view.specs.StateOk.{stateOk}
+use Rattle.valid.specs.StateOk.{stateOk}
 
 -- a table's bytes as the table of the rules
 abbrev pub rulesTable : List ℕ → Table

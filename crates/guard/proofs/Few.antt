@@ -10,7 +10,7 @@ use Rattle.header.specs.Quorum.{reaches}
 use Rattle.rules.specs.Table.{quorum}
 use Rattle.state.specs.declared.Fact.the-variants.{Shared, Known}
 use Rattle.state.specs.Contents.{contents}
-use Rattle.sets.specs.Sets.{signersOf, sharersOf}
+use Rattle.state.specs.Sets.{signersOf, sharersOf}
 use Rattle.view.specs.View.{noClash, tableOf}
 use Rattle.view.specs.Ready.{Ready}
 use Rattle.view.proofs.Quorum.{signers-quorum, sharers-quorum}

@@ -21,7 +21,7 @@ use Rattle.rules.specs.Table.{clashing}
 use Rattle.state.specs.declared.Fact.the-variants.{Held}
 use Rattle.state.specs.Layout.{items}
 use Rattle.state.specs.Contents.{contents}
-use Rattle.sets.specs.Sets.{heldOf}
+use Rattle.state.specs.Sets.{heldOf}
 use Rattle.header.specs.declared.Head.{Head}
 use Rattle.view.specs.View.{noClash, inRow, tableOf, stateOf}
 use Rattle.view.specs.Ready.{Ready}

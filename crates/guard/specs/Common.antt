@@ -4,7 +4,7 @@ use mathlib.Core.Bool.{Bool, _&&_}
 use Rattle.base.specs.Below.{any}
 use Rattle.base.specs.Bits.{bit}
 use Rattle.state.specs.Contents.{Contents}
-use Rattle.sets.specs.Sets.{heldOf}
+use Rattle.state.specs.Sets.{heldOf}
 
 unfoldable pub inCommon : ℕ → ℕ → Bool
 inCommon a b = any 64 (λ y. bit a y && bit b y)

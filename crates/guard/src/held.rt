@@ -7,7 +7,7 @@ ghost use Rattle.view.specs.View.{inRow, tableOf, stateOf};
 ghost use Rattle.view.specs.Ready.{Ready};
 ghost use Rattle.guard.specs.Common.{inCommon, holdsOf};
 use header::Head;
-use sets::held_in;
+use sets::whole::held_in;
 
 // Whether two sets of items have an item in common.
 fn sets_meet(a: u64, b: u64) -> bool

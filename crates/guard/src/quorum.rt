@@ -10,8 +10,8 @@ ghost use Rattle.view.specs.Ready.{Ready};
 use header::Head;
 use header::quorum::sharers_reach;
 use header::quorum::signers_reach;
-use sets::sharers_of;
-use sets::signers_of;
+use sets::whole::sharers_of;
+use sets::whole::signers_of;
 use state::numbers::current_of;
 
 // Peer j's database has fewer than t signers on item x in its open period.

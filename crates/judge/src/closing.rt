@@ -102,10 +102,10 @@ pub fn judge_hear(s: &[u8], h: Head, j: u8, e: u8) -> u8
     if guard::periods::is_down(s, j) {
         return 8;
     }
-    if support::entry::not_hash(s, e) {
+    if bag_guard::entry::not_hash(s, e) {
         return 10;
     }
-    if support::entry::entry_not_closed(s, j, e) {
+    if bag_guard::entry::entry_not_closed(s, j, e) {
         return 9;
     }
     0
@@ -142,13 +142,13 @@ pub fn judge_publish(s: &[u8], h: Head, e: u8) -> u8
     requires { ⌜ Ready h (now s) ⌝ }
     ensures { λ r. ⌜ r ≡ answerOn h noClash (now (s .entry)) (Publish e) ⌝ }
 {
-    if support::entry::not_backing(s, e) {
+    if bag_guard::entry::not_backing(s, e) {
         return 10;
     }
-    if support::boards::few_backers_of(s, h, e) {
+    if bag_guard::boards::few_backers_of(s, h, e) {
         return 12;
     }
-    if support::boards::no_room_for_board(s, e) {
+    if bag_guard::boards::no_room_for_board(s, e) {
         return 13;
     }
     0

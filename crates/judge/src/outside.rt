@@ -54,10 +54,10 @@ pub fn judge_false_hash(s: &[u8], h: Head, j: u8, p: u8, board: u64) -> u8
     if header::is_honest(h, j) {
         return 7;
     }
-    if support::boards::unposted(s, h, board) {
+    if bag_guard::boards::unposted(s, h, board) {
         return 10;
     }
-    if support::entry::is_full(s, Entry::Hash(j, p, board)) {
+    if bag_guard::entry::is_full(s, Entry::Hash(j, p, board)) {
         return 13;
     }
     0
@@ -80,10 +80,10 @@ pub fn judge_false_backing(s: &[u8], h: Head, j: u8, p: u8, board: u64) -> u8
     if header::is_honest(h, j) {
         return 7;
     }
-    if support::boards::unposted(s, h, board) {
+    if bag_guard::boards::unposted(s, h, board) {
         return 10;
     }
-    if support::entry::is_full(s, Entry::Backing(j, p, board)) {
+    if bag_guard::entry::is_full(s, Entry::Backing(j, p, board)) {
         return 13;
     }
     0

@@ -16,7 +16,7 @@ pub fn hash_full(s: &[u8], h: Head, j: u8, p: u8, board: u64) -> bool
     requires { ⌜ Ready h (now s) × (board ≡ boardOn h (now s) j p) ⌝ }
     ensures { λ r. ⌜ r ≡ isFull (Hash j p (boardOn h (now (s .entry)) j p)) (contents (now (s .entry)) .bag) ⌝ }
 {
-    support::entry::is_full(s, Entry::Hash(j, p, board))
+    bag_guard::entry::is_full(s, Entry::Hash(j, p, board))
 }
 
 // Fewer than t signers among the hashes that peer j heard have its board of period c.
@@ -24,7 +24,7 @@ pub fn few_heard_own(s: &[u8], h: Head, j: u8, c: u8, board: u64) -> bool
     requires { ⌜ Ready h (now s) × (c ≡ contents (now s) .number (ToBackOf j)) × (board ≡ boardOn h (now s) j (contents (now s) .number (ToBackOf j))) ⌝ }
     ensures { λ r. ⌜ r ≡ not (quorum (tableOf h noClash) (λ k. stateOf (contents (now (s .entry))) .heard j k (contents (now (s .entry)) .number (ToBackOf j)) (boardOn h (now (s .entry)) j (contents (now (s .entry)) .number (ToBackOf j))))) ⌝ }
 {
-    support::signers::few_heard(s, h, j, c, board)
+    bag_guard::signers::few_heard(s, h, j, c, board)
 }
 
 // There is no room for peer j's backing of period c.
@@ -32,5 +32,5 @@ pub fn backing_full(s: &[u8], h: Head, j: u8, c: u8, board: u64) -> bool
     requires { ⌜ Ready h (now s) × (c ≡ contents (now s) .number (ToBackOf j)) × (board ≡ boardOn h (now s) j (contents (now s) .number (ToBackOf j))) ⌝ }
     ensures { λ r. ⌜ r ≡ isFull (Backing j (contents (now (s .entry)) .number (ToBackOf j)) (boardOn h (now (s .entry)) j (contents (now (s .entry)) .number (ToBackOf j)))) (contents (now (s .entry)) .bag) ⌝ }
 {
-    support::entry::is_full(s, Entry::Backing(j, c, board))
+    bag_guard::entry::is_full(s, Entry::Backing(j, c, board))
 }

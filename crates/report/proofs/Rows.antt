@@ -17,9 +17,9 @@ use Rattle.state.specs.Contents.{Contents, contents}
 use Rattle.base.specs.Tab.{tab}
 use Rattle.state.proofs.Ranges.{spot-within}
 use Rattle.base.proofs.Tab.{tab-ext, getD-tab}
-use Rattle.sets.specs.Sets.{signersOf}
+use Rattle.state.specs.Sets.{signersOf}
 use Rattle.sets.proofs.Words.{signers-out}
-use Rattle.database.specs.Database.{rowOf, databaseOf}
+use Rattle.sets.specs.Database.{rowOf, databaseOf}
 use Rattle.header.specs.declared.Head.{Head}
 use Rattle.text.specs.Wrote.{Wrote, each}
 use Rattle.text.proofs.Writing.{none, renamed}

@@ -1,2 +1,4 @@
 pub mod Words
 pub mod Union
+pub mod Rows
+pub mod Boards

@@ -19,7 +19,7 @@ use Rattle.state.specs.Layout.{peers, peerBytes, databaseAt}
 use Rattle.state.specs.Facts.{inRange, isPeer, Peer, Spot, Within}
 use Rattle.state.specs.Places.{spot, place, factAt}
 use Rattle.state.specs.Contents.{contents, Canon, Holds, adding}
-use Rattle.sets.specs.Sets.{inSet, onItem, knownTo}
+use Rattle.state.specs.Sets.{inSet, onItem, knownTo}
 use Rattle.state.proofs.Ranges.{peer-within, within-peer, range-within, within-range}
 use Rattle.state.proofs.Places.{fact-at}
 use Rattle.state.proofs.Holds.{adding-holds}

@@ -19,7 +19,7 @@ use Rattle.state.specs.Layout.{peers, items, peerBytes, itemBytes, postedAt, sh
 use Rattle.state.specs.Facts.{inRange, Within, isCell, isRow, isSpot}
 use Rattle.state.specs.Places.{place, cell, row, spot}
 use Rattle.state.specs.Contents.{contents, Canon}
-use Rattle.sets.specs.Sets.{signersOf, sharersOf, heldOf, postedOf}
+use Rattle.state.specs.Sets.{signersOf, sharersOf, heldOf, postedOf}
 use Rattle.state.proofs.Ranges.{range-within, within-range, cell-within, within-cell, row-within, within-row, spot-within, within-spot}
 use Rattle.state.proofs.Frame.{has-bit, has-none}
 

@@ -1,1 +1,1 @@
-pub mod Sets
+pub mod Database

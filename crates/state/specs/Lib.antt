@@ -5,3 +5,4 @@ pub mod Numbers
 pub mod Entries
 pub mod Contents
 pub mod Encode
+pub mod Sets

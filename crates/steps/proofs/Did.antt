@@ -15,7 +15,7 @@ use Rattle.state.specs.declared.Fact.{Fact}
 use Rattle.state.specs.declared.Fact.the-variants.{Posted, Signed, Shared, Receipted, Held, Known, Heard}
 use Rattle.state.specs.declared.Number.the-variants.{CurrentOf, ToBackOf, DownOf}
 use Rattle.state.specs.Contents.{Contents, contents, Canon, Holds, insert, store, withEntry}
-use Rattle.database.specs.Database.{fetched}
+use Rattle.state.specs.Sets.{fetched}
 use Rattle.view.specs.Effect.{enterOn, effectOn}
 
 -- one change after another

@@ -6,12 +6,12 @@ ghost use Rattle.steps.specs.Stepped.{Stepped};
 use crate::change::enter;
 use crate::change::raise_current;
 use crate::change::raise_to_back;
+use bag_guard::entry::board_named;
 use header::Head;
 use rules::Entry;
 use state::Fact;
 use state::facts::add_fact;
 use state::numbers::to_back_of;
-use support::entry::board_named;
 
 // 7, close: peer j closes its open period.
 pub fn step_close(s: &mut [u8], h: Head, j: u8) -> u8
@@ -35,7 +35,7 @@ pub fn step_fetch(s: &mut [u8], h: Head, j: u8, k: u8, p: u8) -> u8
     if a != 0 {
         return a;
     }
-    database::fetch(s, j, k, p);
+    sets::database::fetch(s, j, k, p);
     0
 }
 
@@ -44,7 +44,7 @@ pub fn step_send_hash(s: &mut [u8], h: Head, j: u8, p: u8) -> u8
     requires { ⌜ Ready h (now s) ⌝ }
     ensures { λ r. ⌜ Stepped h noClash (now (s .entry)) (now (s .exit)) (SendHash j p) r ⌝ }
 {
-    let board = support::boards::board_by(s, h, j, p);
+    let board = bag_guard::boards::board_by(s, h, j, p);
     let a = judge::closing::judge_send_hash(s, h, j, p, board);
     if a != 0 {
         return a;
@@ -72,7 +72,7 @@ pub fn step_back(s: &mut [u8], h: Head, j: u8) -> u8
     ensures { λ r. ⌜ Stepped h noClash (now (s .entry)) (now (s .exit)) (Back j) r ⌝ }
 {
     let c = to_back_of(s, j);
-    let board = support::boards::board_by(s, h, j, c);
+    let board = bag_guard::boards::board_by(s, h, j, c);
     let a = judge::closing::judge_back(s, h, j, c, board);
     if a != 0 {
         return a;

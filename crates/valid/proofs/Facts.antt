@@ -14,7 +14,7 @@ use Rattle.state.specs.Contents.{contents}
 use Rattle.state.proofs.Ranges.{range-within, within-range}
 use Rattle.state.proofs.Places.{place-lt, at-place, fact-at}
 use Rattle.header.specs.declared.Head.{Head}
-use Rattle.view.specs.StateOk.{factOk, factsOk}
+use Rattle.valid.specs.StateOk.{factOk, factsOk}
 
 module _ (h : Head) (s : List ℕ) where
   there : (b c : Bool) → not b || c ≡ true → b ≡ true → c ≡ true

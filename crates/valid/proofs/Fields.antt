@@ -15,7 +15,7 @@ use Rattle.state.specs.Layout.{peers, currentAt, toBackAt, downAt}
 use Rattle.state.specs.Numbers.{peerOf, slot}
 use Rattle.state.specs.Contents.{contents}
 use Rattle.header.specs.declared.Head.{Head}
-use Rattle.view.specs.StateOk.{numbersOk, peerOk, peersOk}
+use Rattle.valid.specs.StateOk.{numbersOk, peerOk, peersOk}
 
 module _ (h : Head) (j p c d : ℕ) where
   pub not-there : (x y z : ℕ) → h .n < j → x ≡ p → y ≡ c → z ≡ d → eqb (x + y + z) 0 ≡ numbersOk h j p c d

@@ -17,7 +17,7 @@ use Rattle.state.specs.Contents.{Contents, contents}
 use Rattle.state.proofs.Ranges.{peer-within}
 use Rattle.state.proofs.Frame.{number-none}
 use Rattle.header.specs.declared.Head.{Head}
-use Rattle.view.specs.StateOk.{numbersOk, peerOk, peersOk}
+use Rattle.valid.specs.StateOk.{numbersOk, peerOk, peersOk}
 
 -- what holds of the three numbers of a peer
 pub record Numbers (h : Head) (c : Contents) (j : ℕ) : Type 0 where

@@ -21,7 +21,7 @@ use Rattle.state.specs.Places.{place, factAt, postedBy, signedBy, sharedBy, rec
 use Rattle.state.specs.Contents.{contents}
 use Rattle.state.proofs.Places.{fact-at}
 use Rattle.header.specs.declared.Head.{Head}
-use Rattle.view.specs.StateOk.{isSpot, factOk, factsOk}
+use Rattle.valid.specs.StateOk.{isSpot, factOk, factsOk}
 use Rattle.valid.specs.Rows.{onlyIn, first, inRows, mask}
 use Rattle.valid.specs.Regions.{entryBytes, hashIn, cells, seats, spots, postedOk, signedOk, sharedOk, receiptedOk, heldOk, knownOk, heardOk, itemSetsOk, peerSetsOk}
 use Rattle.valid.proofs.Masks.{only-of-mask, rows-of-mask, tables-of-mask}

@@ -2,7 +2,7 @@
 ghost use mathlib.Core.Path.{_≡_};
 ghost use lib.ListN.{length};
 ghost use Rattle.state.specs.Layout.{size};
-ghost use Rattle.view.specs.StateOk.{numbersOk, peersOk};
+ghost use Rattle.valid.specs.StateOk.{numbersOk, peersOk};
 use base::wide;
 use header::Head;
 use state::layout::CURRENT;

@@ -1,12 +1,12 @@
 // Row 14 of the numbers on the report: whether a lent buffer is a state of the table. A state need not be one that steps lead to.
-// It uses entries for the bag, state's layout and bits for the rest, and view for what row 14 asks. As entries does, it reads bytes by their places.
+// It uses bag_valid for the bag, and state's layout and bits for the rest. As bag_valid does, it reads bytes by their places.
 ghost use mathlib.Core.Path.{_≡_};
-ghost use Rattle.view.specs.StateOk.{stateOk};
+ghost use Rattle.valid.specs.StateOk.{stateOk};
 ghost use Rattle.view.specs.Ready.{Room};
 use crate::counters::peers_ok;
 use crate::sets::facts_ok;
-use entries::bag_ok;
-use entries::count_of;
+use bag_valid::bag_ok;
+use bag_valid::count_of;
 use header::Head;
 use state::layout::SIZE;
 

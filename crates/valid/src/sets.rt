@@ -4,7 +4,7 @@ ghost use Prim.Native.Nat.{_≤_};
 ghost use lib.ListN.{length};
 ghost use Rattle.state.specs.Layout.{entries, size};
 ghost use Rattle.state.specs.Contents.{count};
-ghost use Rattle.view.specs.StateOk.{factsOk};
+ghost use Rattle.valid.specs.StateOk.{factsOk};
 ghost use Rattle.valid.specs.Regions.{itemSetsOk, peerSetsOk, heardOk};
 use crate::hashes::hashes;
 use crate::mask::of_cells;

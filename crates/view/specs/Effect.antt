@@ -11,7 +11,7 @@ use Rattle.rules.specs.Rules.{boardBy}
 use Rattle.state.specs.declared.Fact.the-variants.{Posted, Signed, Shared, Receipted, Held, Known, Heard}
 use Rattle.state.specs.declared.Number.the-variants.{CurrentOf, ToBackOf, DownOf}
 use Rattle.state.specs.Contents.{Contents, insert, store, withEntry}
-use Rattle.database.specs.Database.{fetched}
+use Rattle.state.specs.Sets.{fetched}
 use Rattle.view.specs.View.{stateOf}
 
 -- the entry is appended, unless it is there

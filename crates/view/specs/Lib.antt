@@ -2,4 +2,3 @@ pub mod View
 pub mod Effect
 pub mod Good
 pub mod Ready
-pub mod StateOk

@@ -28,24 +28,24 @@ add-load c = search needs
 load-requires : tie.Need-load-requires
 load-requires c κs = search needs
 
-returns-3 : tie.Need-returns-3
-unfolding writtenSigner
-returns-3 c = let k = c .before .before in
-    let p = k .before .before in
-    rw (eq-eqb _ _ (p .if1 .left), eq-eqb _ _ (k .if2 .left), ← c .before .load .ensures, ne-eqb _ _ (c .if3 .taken))
-
 add-result : tie.Need-add-result
 add-result c = search needs
 
 shared-slice-read-result : tie.Need-shared-slice-read-result
 shared-slice-read-result c = search needs
 
-returns-4 : tie.Need-returns-4
+returns-3 : tie.Need-returns-3
 unfolding writtenSigner
-returns-4 c = let b = c .before in
+returns-3 c = let b = c .before in
     let k = b .before .before in
     let p = k .before .before in
-    rw (eq-eqb _ _ (p .if1 .left), eq-eqb _ _ (k .if2 .left), ← b .before .load .ensures, eq-eqb _ _ (b .if3 .left))
+    rw (eq-eqb _ _ (p .if1 .left), eq-eqb _ _ (k .if2 .left), ← b .before .load .ensures, eq-eqb _ _ (b .if3 .taken))
+
+returns-4 : tie.Need-returns-4
+unfolding writtenSigner
+returns-4 c = let k = c .before .before in
+    let p = k .before .before in
+    rw (eq-eqb _ _ (p .if1 .left), eq-eqb _ _ (k .if2 .left), ← c .before .load .ensures, ne-eqb _ _ (c .if3 .left))
 
 pub written-signer-spec : {M : Type 1} → statement M
 written-signer-spec =
@@ -58,7 +58,7 @@ written-signer-spec =
     returns-2
     add-load
     load-requires
-    returns-3
     add-result
     shared-slice-read-result
+    returns-3
     returns-4)

@@ -1,5 +1,5 @@
 -- By `not-below`.
-use Rattle.guard.proofs.Tests.{not-below}
+use Rattle.base.proofs.Tests.{not-below}
 use Rattle.guard.proofs.names.no_item.Statement.{statement}
 use Rattle.guard.proofs.names.no_item.Tie as tie
 

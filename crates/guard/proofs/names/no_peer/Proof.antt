@@ -1,5 +1,5 @@
 -- By `peer-zero` and `peer-other`.
-use Rattle.guard.proofs.Tests.{peer-zero, peer-other}
+use Rattle.base.proofs.Tests.{peer-zero, peer-other}
 use Rattle.guard.proofs.names.no_peer.Statement.{statement}
 use Rattle.guard.proofs.names.no_peer.Tie as tie
 

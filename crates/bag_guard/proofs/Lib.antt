@@ -1,0 +1,4 @@
+pub mod Full
+pub mod Named
+pub mod Gathered
+pub mod BoardItems

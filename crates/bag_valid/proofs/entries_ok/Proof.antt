@@ -1,0 +1,51 @@
+-- Every entry so far passes.
+use Prim.Native.Nat.{_≤_, _-_}
+use mathlib.Core.Bool.{true}
+use mathlib.Core.Path.{_≡_}
+use borrow.Author.Needs.{needs}
+use Rattle.base.specs.Below.{every}
+use Rattle.base.proofs.Chain.{by-loop}
+use Rattle.bag_valid.specs.BagOk.{entryAtOk}
+use Rattle.bag_valid.proofs.entries_ok.Statement.{statement}
+use Rattle.bag_valid.proofs.entries_ok.Tie as tie
+
+abbrev Inv-loop : tie.InvT-loop
+Inv-loop s h n e₀ e = (e ≤ n) × (every e (entryAtOk h s) ≡ true)
+
+abbrev μ-loop : tie.MeasureT-loop
+μ-loop s h n e₀ e = n - e
+
+loop-holds : tie.Need-loop-holds Inv-loop μ-loop
+loop-holds c = search by-loop
+
+entry-at-ok-requires : tie.Need-entry-at-ok-requires Inv-loop μ-loop
+entry-at-ok-requires c κs = search needs
+
+returns : tie.Need-returns Inv-loop μ-loop
+returns c = search by-loop depth 12
+
+add-e : tie.Need-add-e Inv-loop μ-loop
+add-e c = search needs
+
+loop-less : tie.Need-loop-less Inv-loop μ-loop
+loop-less c = search needs
+
+loop-again : tie.Need-loop-again Inv-loop μ-loop
+loop-again c = search by-loop depth 12
+
+returns-2 : tie.Need-returns-2 Inv-loop μ-loop
+returns-2 c = search by-loop depth 12
+
+pub entries-ok-spec : {M : Type 1} → statement M
+entries-ok-spec =
+    tie.close
+    (tie.spec
+    Inv-loop
+    μ-loop
+    loop-holds
+    entry-at-ok-requires
+    returns
+    add-e
+    loop-less
+    loop-again
+    returns-2)

@@ -1,0 +1,28 @@
+-- The tests in the definition's order.
+use borrow.Author.Needs.{needs}
+use Rattle.base.proofs.Chain.{by-tests}
+use Rattle.bag_valid.specs.Numbers.{fourOk}
+use Rattle.bag_valid.proofs.four_ok.Statement.{statement}
+use Rattle.bag_valid.proofs.four_ok.Tie as tie
+
+signer-ok-requires : tie.Need-signer-ok-requires
+signer-ok-requires c κs = search needs
+
+returns : tie.Need-returns
+unfolding fourOk
+returns c = search by-tests depth 12
+
+returns-2 : tie.Need-returns-2
+unfolding fourOk
+returns-2 c = search by-tests depth 12
+
+is-below-requires : tie.Need-is-below-requires
+is-below-requires c κs = search needs
+
+returns-3 : tie.Need-returns-3
+unfolding fourOk
+returns-3 c = search by-tests depth 12
+
+pub four-ok-spec : {M : Type 1} → statement M
+four-ok-spec =
+    tie.close (tie.spec signer-ok-requires returns returns-2 is-below-requires returns-3)

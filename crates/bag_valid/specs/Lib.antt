@@ -1,0 +1,2 @@
+pub mod BagOk
+pub mod Numbers

@@ -1,4 +1,0 @@
-pub mod Full
-pub mod Named
-pub mod Gathered
-pub mod BoardNumbers
