@@ -15,7 +15,7 @@ use Rattle.base.specs.Sets.{add1, add2, add3, add4, setAt}
 use Rattle.base.specs.Weight.{weight}
 use Rattle.base.proofs.Below.{every-at}
 use Rattle.base.proofs.Truth.{and-l, and-r}
-use Rattle.header.specs.Header.{headOf, thresholdOf, honestCount, leastThreshold, thresholdOk, fieldsOk, headerOk}
+use Rattle.header.specs.Header.{headOf, headerSize, fieldOf, thresholdOf, honestCount, leastThreshold, thresholdOk, fieldsOk, headerOk}
 use Rattle.pairs.specs.Pairs.{endBefore, startsAtEnd, pairsFit, pairsOk}
 use Rattle.ballot.specs.Item.{readKind, readItem}
 use Rattle.ballot.specs.Table.{tablePairsOk, itemOk, itemsOk, differ, newAt, noTwins, refusal}
@@ -41,7 +41,7 @@ abbrev good : ℕ → Bool
 good n = eqb (refusal (barely n)) 0 && (eqb (honestCount (headOf (barely n))) (thresholdOf (barely n)) && clashIn (barely n) 0 1)
 
 all-good : every 16 (λ k. good (k + 1)) ≡ true
-unfolding refusal headerOk fieldsOk thresholdOk leastThreshold tablePairsOk pairsOk pairsFit startsAtEnd endBefore
+unfolding refusal headerOk headerSize fieldOf fieldsOk thresholdOk leastThreshold tablePairsOk pairsOk pairsFit startsAtEnd endBefore
     itemsOk itemOk noTwins newAt differ clashIn clash readItem readKind first every numberAt part sameBytes bit member weight
 all-good = refl
 
@@ -62,7 +62,7 @@ barely-met n l m =
     }
 
 case-r-met : HonestEnough tables.caseR
-unfolding refusal headerOk fieldsOk thresholdOk leastThreshold tablePairsOk pairsOk pairsFit startsAtEnd endBefore
+unfolding refusal headerOk headerSize fieldOf fieldsOk thresholdOk leastThreshold tablePairsOk pairsOk pairsFit startsAtEnd endBefore
     itemsOk itemOk noTwins newAt differ clashIn clash readItem readKind first every numberAt part sameBytes bit member weight
 case-r-met = record { taken = refl; honest = omega arith }
 
@@ -75,7 +75,8 @@ pub record ByRules (table : List ℕ) (w : Worked) (signers : List (ℕ × ℕ �
   pub ideally : RulesIdeally (rulesTable table) w receipts boards true
 
 case-r : ByRules tables.caseR caseR ((1, 0, 0, 1) ∷ []) ((0, 0) ∷ []) ((0, 1) ∷ [])
-unfolding first any every bit member pack numberAt part sameBytes readItem readKind clashIn clash add1 add2 add3 add4 setAt weight
+unfolding headerSize fieldOf first any every bit member pack numberAt part sameBytes readItem readKind clashIn clash add1 add2 add3 add4
+    setAt weight
     clashing sameEntry isIn enter isFull boardsIn
     allZero formed select ops laterOps read boardFrom addRows rule answer next reply leave isThere hasBoard onBoard mayReceive mayReceipt
     mayPublish nowEnough move feed ideal deed deedOf
@@ -86,7 +87,8 @@ case-r = record {
 }
 
 two-faced : ByRules (barely 4) twoFaced ((1, 0, 0, 3) ∷ (2, 0, 0, 3) ∷ (3, 0, 0, 3) ∷ (3, 0, 1, 2) ∷ []) ((0, 0) ∷ []) ((0, 1) ∷ [])
-unfolding first any every bit member pack numberAt part sameBytes readItem readKind clashIn clash add1 add2 add3 add4 setAt weight
+unfolding headerSize fieldOf first any every bit member pack numberAt part sameBytes readItem readKind clashIn clash add1 add2 add3 add4
+    setAt weight
     clashing sameEntry isIn enter isFull boardsIn
     allZero formed select ops laterOps read boardFrom addRows rule answer next reply leave isThere hasBoard onBoard mayReceive mayReceipt
     mayPublish nowEnough move feed ideal deed deedOf
