@@ -125,7 +125,8 @@ pub fn is_in(s: &[u8], x: Entry) -> bool
 // Writes the bytes of an entry from o on.
 fn write(s: &mut [u8], o: usize, kind: u8, signer: u8, period: u8, board: u64)
     requires { ⌜ o + entrySize ≤ length (now s) ⌝ }
-    ensures { λ _. ⌜ (now (s .exit) ≡ written (now (s .entry)) o kind signer period board) × FieldsFit signer period board ⌝ }
+    ensures { λ _. ⌜ (now (s .exit) ≡ written (now (s .entry)) o kind signer period board)
+        × FieldsFit signer period board ⌝ }
 {
     s[o] = kind;
     s[o + layout::SIGNER_IN] = signer;

@@ -2,11 +2,10 @@
 ghost use mathlib.Core.Path.{_≡_};
 ghost use mathlib.Core.Bool.{not};
 ghost use Prim.Native.Nat.{_^_, _<_, _≤_};
-ghost use Rattle.rules.specs.Table.{quorum};
-ghost use Rattle.rules.specs.Bag.{isFull, entryAt, periodOf, boardOf, boardNamed};
-ghost use Rattle.rules.specs.Rules.{backers, unposted};
-ghost use Rattle.state.specs.Contents.{contents, Canon};
-ghost use Rattle.view.specs.View.{noClash, tableOf, stateOf, boardOn};
+ghost use Rattle.rules.specs.Bag.{isFull, periodOf, boardOf, boardNamed};
+ghost use Rattle.rules.specs.Rules.{unposted};
+ghost use Rattle.state.specs.Contents.{Canon, bagOn};
+ghost use Rattle.view.specs.View.{noClash, tableOf, boardOn, stateOn, quorumOf, entryOn, backersOn};
 ghost use Rattle.view.specs.Ready.{Ready};
 use crate::entry::board_named;
 use crate::entry::board_of_entry;
@@ -29,7 +28,7 @@ pub fn board_by(s: &[u8], h: Head, j: u8, p: u8) -> u64
 // An item of the board is not posted.
 pub fn unposted(s: &[u8], h: Head, board: u64) -> bool
     requires { ⌜ Canon (now s) × (h .items ≤ 64) × (board < 2 ^ h .items) ⌝ }
-    ensures { λ r. ⌜ r ≡ unposted (tableOf h noClash) (stateOf (contents (now (s .entry)))) board ⌝ }
+    ensures { λ r. ⌜ r ≡ unposted (tableOf h noClash) (stateOn (now (s .entry))) board ⌝ }
 {
     let all = posted(s);
     board | all != all
@@ -38,7 +37,8 @@ pub fn unposted(s: &[u8], h: Head, board: u64) -> bool
 // The bag has fewer than t backings of the period and the board of entry e.
 pub fn few_backers_of(s: &[u8], h: Head, e: u8) -> bool
     requires { ⌜ Ready h (now s) ⌝ }
-    ensures { λ r. ⌜ r ≡ not (quorum (tableOf h noClash) (backers (contents (now (s .entry)) .bag) (periodOf (entryAt (contents (now (s .entry)) .bag) e)) (boardOf (entryAt (contents (now (s .entry)) .bag) e)))) ⌝ }
+    ensures { λ r. ⌜ r ≡ not (quorumOf h (backersOn (now (s .entry)) (periodOf (entryOn (now (s .entry)) e))
+        (boardOf (entryOn (now (s .entry)) e)))) ⌝ }
 {
     let x = entry_at(s, e as usize);
     few_backers(s, h, period_of(x), board_of_entry(x))
@@ -47,7 +47,7 @@ pub fn few_backers_of(s: &[u8], h: Head, e: u8) -> bool
 // There is no room for the board that entry e names.
 pub fn no_room_for_board(s: &[u8], e: u8) -> bool
     requires { ⌜ Canon (now s) ⌝ }
-    ensures { λ r. ⌜ r ≡ isFull (boardNamed (contents (now (s .entry)) .bag) e) (contents (now (s .entry)) .bag) ⌝ }
+    ensures { λ r. ⌜ r ≡ isFull (boardNamed (bagOn (now (s .entry))) e) (bagOn (now (s .entry))) ⌝ }
 {
     is_full(s, board_named(s, e))
 }

@@ -1,10 +1,10 @@
 // Entries of the bag: 10, and the room for one more: 13.
 ghost use mathlib.Core.Path.{_≡_};
 ghost use mathlib.Core.Bool.{not};
-ghost use Rattle.rules.specs.Bag.{isHash, isBacking, isFull, entryAt, periodOf, boardOf, boardNamed};
+ghost use Rattle.rules.specs.Bag.{isHash, isBacking, isFull, periodOf, boardOf, boardNamed};
 ghost use Rattle.rules.specs.Rules.{notClosed};
-ghost use Rattle.state.specs.declared.Number.the-variants.{CurrentOf};
-ghost use Rattle.state.specs.Contents.{contents, Canon};
+ghost use Rattle.state.specs.Contents.{Canon, currentOn, bagOn};
+ghost use Rattle.view.specs.View.{entryOn};
 use bag::bag_len;
 use bag::entry_at;
 use bag::is_in;
@@ -59,7 +59,7 @@ pub fn board_of_entry(x: Entry) -> u64
 // The board that entry e names.
 pub fn board_named(s: &[u8], e: u8) -> Entry
     requires { ⌜ Canon (now s) ⌝ }
-    ensures { λ r. ⌜ r ≡ boardNamed (contents (now (s .entry)) .bag) e ⌝ }
+    ensures { λ r. ⌜ r ≡ boardNamed (bagOn (now (s .entry))) e ⌝ }
 {
     let x = entry_at(s, e as usize);
     Entry::Board(period_of(x), board_of_entry(x))
@@ -68,7 +68,7 @@ pub fn board_named(s: &[u8], e: u8) -> Entry
 // Entry e is absent, or no hash.
 pub fn not_hash(s: &[u8], e: u8) -> bool
     requires { ⌜ Canon (now s) ⌝ }
-    ensures { λ r. ⌜ r ≡ not (isHash (entryAt (contents (now (s .entry)) .bag) e)) ⌝ }
+    ensures { λ r. ⌜ r ≡ not (isHash (entryOn (now (s .entry)) e)) ⌝ }
 {
     !is_hash(entry_at(s, e as usize))
 }
@@ -76,7 +76,7 @@ pub fn not_hash(s: &[u8], e: u8) -> bool
 // Entry e is absent, or no backing.
 pub fn not_backing(s: &[u8], e: u8) -> bool
     requires { ⌜ Canon (now s) ⌝ }
-    ensures { λ r. ⌜ r ≡ not (isBacking (entryAt (contents (now (s .entry)) .bag) e)) ⌝ }
+    ensures { λ r. ⌜ r ≡ not (isBacking (entryOn (now (s .entry)) e)) ⌝ }
 {
     !is_backing(entry_at(s, e as usize))
 }
@@ -84,7 +84,7 @@ pub fn not_backing(s: &[u8], e: u8) -> bool
 // Peer j has not closed the period of entry e.
 pub fn entry_not_closed(s: &[u8], j: u8, e: u8) -> bool
     requires { ⌜ Canon (now s) ⌝ }
-    ensures { λ r. ⌜ r ≡ notClosed (contents (now (s .entry)) .number (CurrentOf j)) (periodOf (entryAt (contents (now (s .entry)) .bag) e)) ⌝ }
+    ensures { λ r. ⌜ r ≡ notClosed (currentOn (now (s .entry)) j) (periodOf (entryOn (now (s .entry)) e)) ⌝ }
 {
     current_of(s, j) <= period_of(entry_at(s, e as usize))
 }
@@ -92,7 +92,7 @@ pub fn entry_not_closed(s: &[u8], j: u8, e: u8) -> bool
 // The entry is new, and there is no room for it. Nothing is looked for while there is room.
 pub fn is_full(s: &[u8], x: Entry) -> bool
     requires { ⌜ Canon (now s) ⌝ }
-    ensures { λ r. ⌜ r ≡ isFull x (contents (now (s .entry)) .bag) ⌝ }
+    ensures { λ r. ⌜ r ≡ isFull x (bagOn (now (s .entry))) ⌝ }
 {
     if bag_len(s) < layout::ENTRIES {
         return false;

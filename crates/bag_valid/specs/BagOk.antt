@@ -1,4 +1,4 @@
--- Row 14 of the bag: at most 256 entries, each within the table's ranges, no two the same, and every byte after the last 0.
+-- Row 14 of the bag: at most 256 entries, each within the table's ranges, no two the same, and 0 after the last.
 use Prim.Native.Nat.{ℕ, _+_, _-_, _^_}
 use mathlib.Core.Bool.{Bool, _&&_}
 use mathlib.Core.List.{List}
@@ -24,14 +24,17 @@ module _ (h : Head) where
   entryOk (Backing k p B) = isPeer k && (ltb p (h .periods) && ltb B (2 ^ h .items))
   entryOk (Board p B) = ltb p (h .periods) && ltb B (2 ^ h .items)
 
-  -- entry e is of the table, and its bytes are those of the entry that they say: its kind is 1, 2 or 3, and the signer of a board is 0
+  -- entry e is of the table, and its bytes are those of the entry that they say:
+  -- its kind is 1, 2 or 3, and the signer of a board is 0
   unfoldable pub entryAtOk : List ℕ → ℕ → Bool
   entryAtOk s e =
-      eqb (byteAt s (entryStart e)) (kindOf (entryAt s e)) && (eqb (byteAt s (entryStart e + signerIn)) (signerOf (entryAt s e)) && entryOk (entryAt s e))
+      eqb (byteAt s (entryStart e)) (kindOf (entryAt s e))
+      && (eqb (byteAt s (entryStart e + signerIn)) (signerOf (entryAt s e)) && entryOk (entryAt s e))
 
   -- at most 256 entries, each in order, no two the same, and 0 after the last
   unfoldable pub bagOk : List ℕ → Bool
   bagOk s =
       leb (count s) entries
       && (every (count s) (entryAtOk s)
-      && (different (contents s .bag) && every (size - entryStart (count s)) (λ i. eqb (byteAt s (entryStart (count s) + i)) 0)))
+      && (different (contents s .bag)
+      && every (size - entryStart (count s)) (λ i. eqb (byteAt s (entryStart (count s) + i)) 0)))

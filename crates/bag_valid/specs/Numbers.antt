@@ -15,7 +15,8 @@ use Rattle.header.specs.declared.Head.{Head}
 
 -- a board has no signer; a hash and a backing have a peer of the table; there is no other kind
 unfoldable pub signerOk : ℕ → ℕ → ℕ → Bool
-signerOk n kind signer = cond (eqb kind boardKind) (eqb signer 0) ((eqb kind hashKind || eqb kind backingKind) && between 1 signer n)
+signerOk n kind signer =
+    cond (eqb kind boardKind) (eqb signer 0) ((eqb kind hashKind || eqb kind backingKind) && between 1 signer n)
 
 -- the four numbers of an entry are those of an entry of the table
 unfoldable pub fourOk : Head → ℕ → ℕ → ℕ → ℕ → Bool
@@ -42,7 +43,8 @@ markBytes = 4096
 
 -- the mark of an entry's four numbers: where it differs, the entries differ, and for most that differ it does
 unfoldable pub markOf : ℕ → ℕ → ℕ → ℕ → ℕ
-markOf kind signer period board = (board % markPrime + markStep * ((kind * signers + signer) * periods + period)) % marks
+markOf kind signer period board =
+    (board % markPrime + markStep * ((kind * signers + signer) * periods + period)) % marks
 
 module _ (s : List ℕ) where
   -- the four numbers of entry e
@@ -69,7 +71,9 @@ module _ (s : List ℕ) where
 
   -- entries e and d have the same four
   unfoldable pub sameAt : ℕ → ℕ → Bool
-  sameAt e d = eqb (boardAt e) (boardAt d) && (eqb (signerAt e) (signerAt d) && (eqb (periodAt e) (periodAt d) && eqb (kindAt e) (kindAt d)))
+  sameAt e d =
+      eqb (boardAt e) (boardAt d)
+      && (eqb (signerAt e) (signerAt d) && (eqb (periodAt e) (periodAt d) && eqb (kindAt e) (kindAt d)))
 
   -- no entry before e has the same four
   unfoldable pub newAt : ℕ → Bool

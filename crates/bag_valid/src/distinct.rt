@@ -81,7 +81,8 @@ fn is_before(s: &[u8], e: usize) -> bool
     false
 }
 
-// Whether no entry before e has the same four numbers. `mark` is entry e's; `seen` has the marks of all entries before it.
+// Whether no entry before e has the same four numbers.
+// `mark` is entry e's; `seen` has the marks of all entries before it.
 fn is_new(s: &[u8], seen: &[u8], e: usize, mark: usize) -> bool
     requires { ⌜ (length (now s) ≡ size) × ((e < entries) × ((mark ≡ markAt (now s) e) × Seen (now s) (now seen) e)) ⌝ }
     ensures { λ r. ⌜ r ≡ newAt (now (s .entry)) e ⌝ }

@@ -96,7 +96,7 @@ pub fn count_of(s: &[u8]) -> usize
     bits::word(s, COUNT) as usize
 }
 
-// Whether the bag has at most 256 entries, each of the table, no two the same, and only bytes that are 0 after the last.
+// Whether the bag has at most 256 entries, each of the table, no two the same, and only 0 after the last.
 pub fn bag_ok(s: &[u8], h: Head) -> bool
     requires { ⌜ (length (now s) ≡ size) × (h .items ≤ items) ⌝ }
     ensures { λ r. ⌜ r ≡ bagOk h (now (s .entry)) ⌝ }

@@ -3,7 +3,7 @@ ghost use mathlib.Core.Path.{_≡_};
 ghost use Rattle.base.specs.Below.{any};
 ghost use Rattle.rules.specs.Table.{clashing};
 ghost use Rattle.state.specs.Contents.{contents, Canon};
-ghost use Rattle.view.specs.View.{inRow, tableOf, stateOf};
+ghost use Rattle.view.specs.View.{inRow, tableOf, stateOn};
 ghost use Rattle.view.specs.Ready.{Ready};
 ghost use Rattle.guard.specs.Common.{inCommon, holdsOf};
 use header::Head;
@@ -42,7 +42,7 @@ fn ever_holds(s: &[u8], row: u64, j: u8, periods: u8) -> bool
 // Peer j holds, in any period, an item of the row: one that clashes with x, where the row has all that do.
 pub fn holds_clash(s: &[u8], h: Head, row: u64, j: u8, x: u8) -> bool
     requires { ⌜ Ready h (now s) ⌝ }
-    ensures { λ r. ⌜ r ≡ clashing (tableOf h (inRow row)) (stateOf (contents (now (s .entry))) .held j) x ⌝ }
+    ensures { λ r. ⌜ r ≡ clashing (tableOf h (inRow row)) (stateOn (now (s .entry)) .held j) x ⌝ }
 {
     ever_holds(s, row, j, h.periods)
 }

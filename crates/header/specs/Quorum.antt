@@ -1,4 +1,4 @@
--- Sets of peers as numbers, bit k - 1 for peer k: with one peer more, counted, weighed, and whether they reach the threshold.
+-- Sets of peers as numbers, bit k - 1 for peer k: with one peer more, counted, and whether they reach the threshold.
 use Prim.Native.Nat.{ℕ, _-_, _^_}
 use mathlib.Core.Bool.{Bool, cond}
 use lib.Bits.{bitOr}

@@ -1,4 +1,5 @@
-// The ballot table's header: its fields, the struct of them that is read once, whether each is in range, and which sets of peers reach its threshold.
+// The ballot table's header: its fields, the struct of them that is read once, whether each is in range,
+// and which sets of peers reach its threshold.
 // It uses the crate base and no other.
 ghost use mathlib.Core.Path.{_≡_};
 ghost use Prim.Native.Nat.{_≤_};

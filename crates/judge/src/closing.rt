@@ -1,9 +1,8 @@
 // Steps 7 to 12: from the close of a period to its board. For each its refusals, in the order in which they are judged.
 ghost use mathlib.Core.Path.{_≡_};
 ghost use Rattle.rules.specs.declared.Step.the-variants.{Close, Fetch, SendHash, Hear, Back, Publish};
-ghost use Rattle.state.specs.declared.Number.the-variants.{ToBackOf};
-ghost use Rattle.state.specs.Contents.{contents};
-ghost use Rattle.view.specs.View.{noClash, answerOn, boardOn};
+ghost use Rattle.state.specs.Contents.{toBackOn};
+ghost use Rattle.view.specs.View.{noClash, answerOn, boardOn, nextBoardOn};
 ghost use Rattle.view.specs.Ready.{Ready};
 use header::Head;
 
@@ -113,7 +112,7 @@ pub fn judge_hear(s: &[u8], h: Head, j: u8, e: u8) -> u8
 
 // 11, back: peer j backs its board of the next period that it is to back.
 pub fn judge_back(s: &[u8], h: Head, j: u8, c: u8, board: u64) -> u8
-    requires { ⌜ Ready h (now s) × (c ≡ contents (now s) .number (ToBackOf j)) × (board ≡ boardOn h (now s) j (contents (now s) .number (ToBackOf j))) ⌝ }
+    requires { ⌜ Ready h (now s) × (c ≡ toBackOn (now s) j) × (board ≡ nextBoardOn h (now s) j) ⌝ }
     ensures { λ r. ⌜ r ≡ answerOn h noClash (now (s .entry)) (Back j) ⌝ }
 {
     if guard::names::no_peer(h, j) {

@@ -1,4 +1,5 @@
-// Steps 13 to 18: what the outsider does, and peers that go down and come up. For each its refusals, in the order in which they are judged.
+// Steps 13 to 18: what the outsider does, and peers that go down and come up.
+// For each its refusals, in the order in which they are judged.
 ghost use mathlib.Core.Path.{_≡_};
 ghost use Rattle.rules.specs.declared.Step.the-variants.{FalseSignature, FalseShare, FalseHash, FalseBacking, Down, Up};
 ghost use Rattle.view.specs.View.{noClash, answerOn};

@@ -1,4 +1,5 @@
--- What the report shows of a state: databases, receipts and boards. All but boards rise in the fields shown; boards keep the bag's order.
+-- What the report shows of a state: databases, receipts and boards.
+-- All but boards rise in the fields shown; boards keep the bag's order.
 use Prim.Native.Nat.{ℕ, _+_}
 use mathlib.Core.Bool.{cond}
 use mathlib.Core.List.{List, [], _++_}

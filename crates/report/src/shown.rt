@@ -101,7 +101,8 @@ fn put_receipt_item(out: &mut [u8], at: usize, s: &[u8], p: u8, x: u8) -> usize
 // The receipts of one period.
 fn put_receipt_period(out: &mut [u8], at: usize, s: &[u8], h: Head, p: u8) -> usize
     requires { ⌜ Canon (now s) ⌝ }
-    ensures { λ to. ⌜ Wrote (now (out .entry)) at (receiptPeriod h (contents (now (s .entry))) p) (now (out .exit)) to ⌝ }
+    ensures { λ to. ⌜ Wrote (now (out .entry)) at (receiptPeriod h (contents (now (s .entry))) p)
+        (now (out .exit)) to ⌝ }
 {
     let mut to = at;
     let mut x: u8 = 0;

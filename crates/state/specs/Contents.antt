@@ -10,6 +10,7 @@ use Rattle.bits.specs.Number.{num}
 use Rattle.rules.specs.declared.Entry.{Entry}
 use Rattle.state.specs.declared.Fact.{Fact}
 use Rattle.state.specs.declared.Number.{Number}
+use Rattle.state.specs.declared.Number.the-variants.{CurrentOf, ToBackOf}
 use Rattle.base.specs.Tab.{tab}
 use Rattle.state.specs.Layout.{entries, countAt, entryStart, size, signerIn, periodIn, boardIn, countBytes, itemBytes}
 use Rattle.state.specs.Facts.{sameFact, inRange, isPeer}
@@ -30,7 +31,9 @@ count s = num countBytes s countAt
 
 -- entry e
 unfoldable pub entryAt : List ℕ → ℕ → Entry
-entryAt s e = entryOf (byteAt s (entryStart e)) (byteAt s (entryStart e + signerIn)) (byteAt s (entryStart e + periodIn)) (num itemBytes s (entryStart e + boardIn))
+entryAt s e =
+    let o = entryStart e in
+    entryOf (byteAt s o) (byteAt s (o + signerIn)) (byteAt s (o + periodIn)) (num itemBytes s (o + boardIn))
 
 -- what the bytes say; of what there is no room for they say that it is not there
 unfoldable pub contents : List ℕ → Contents
@@ -40,6 +43,20 @@ contents s =
       number = λ n. cond (isPeer (peerOf n)) (byteAt s (slot n)) 0;
       bag = tab (count s) (entryAt s);
     }
+
+-- in short: a fact is there; p, the open period of peer j; c, the next period that it backs; the bag
+
+abbrev pub hasOn : List ℕ → Fact → Bool
+hasOn s f = contents s .has f
+
+abbrev pub currentOn : List ℕ → ℕ → ℕ
+currentOn s j = contents s .number (CurrentOf j)
+
+abbrev pub toBackOn : List ℕ → ℕ → ℕ
+toBackOn s j = contents s .number (ToBackOf j)
+
+abbrev pub bagOn : List ℕ → List Entry
+bagOn s = contents s .bag
 
 -- the bytes of entry e are those of the entry that they say: its kind is 1, 2 or 3, and the signer of a board is 0
 pub record Settled (s : List ℕ) (e : ℕ) : Type 0 where

@@ -9,11 +9,18 @@ use Rattle.state.specs.Layout.{itemBytes, hashKind, backingKind, signerI
 
 -- the entry of these four
 unfoldable pub entryOf : ℕ → ℕ → ℕ → ℕ → Entry
-entryOf kind signer period board = cond (eqb kind hashKind) (Hash signer period board) (cond (eqb kind backingKind) (Backing signer period board) (Board period board))
+entryOf kind signer period board =
+    cond (eqb kind hashKind) (Hash signer period board)
+    (cond (eqb kind backingKind) (Backing signer period board)
+    (Board period board))
 
 -- byte o of the eleven
 unfoldable pub entryByte : Entry → ℕ → ℕ
-entryByte x o = cond (ltb o signerIn) (kindOf x) (cond (ltb o periodIn) (signerOf x) (cond (ltb o boardIn) (periodOf x) (boardOf x / 256 ^ (o - boardIn) % 256)))
+entryByte x o =
+    cond (ltb o signerIn) (kindOf x)
+    (cond (ltb o periodIn) (signerOf x)
+    (cond (ltb o boardIn) (periodOf x)
+    (boardOf x / 256 ^ (o - boardIn) % 256)))
 
 -- a signer, a period and a board fit their bytes
 pub record FieldsFit (k p b : ℕ) : Type 0 where

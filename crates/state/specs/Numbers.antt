@@ -32,4 +32,7 @@ slot (DownOf j) = downAt + (j - 1)
 
 -- the number that stands at byte b
 unfoldable pub numberOf : ℕ → Number
-numberOf b = cond (ltb b toBackAt) (CurrentOf (b - currentAt + 1)) (cond (ltb b downAt) (ToBackOf (b - toBackAt + 1)) (DownOf (b - downAt + 1)))
+numberOf b =
+    cond (ltb b toBackAt) (CurrentOf (b - currentAt + 1))
+    (cond (ltb b downAt) (ToBackOf (b - toBackAt + 1))
+    (DownOf (b - downAt + 1)))

@@ -1,4 +1,5 @@
--- Sets within contents, as numbers: of peers, bit k - 1 for peer k; of items, bit i for item i. And signers added to a database.
+-- Sets within contents, as numbers: of peers, bit k - 1 for peer k; of items, bit i for item i.
+-- And signers added to a database.
 use Prim.Native.Nat.{ℕ, _+_, _-_}
 use mathlib.Core.Bool.{Bool, false, _&&_}
 use lib.Dec.{eqb}

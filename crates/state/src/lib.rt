@@ -1,5 +1,6 @@
-// The bytes of the engine's state: at which byte what stands, what the bytes say, and its facts and numbers read and changed.
-// The bag's entries are in bag, whole sets in sets. Above these three all but bag_valid and valid see what the bytes say, `contents`, and no byte.
+// The bytes of the engine's state: at which byte what stands, what the bytes say, and its facts and numbers.
+// The bag's entries are in bag, whole sets in sets.
+// Above these three all but bag_valid and valid see what the bytes say, `contents`, and no byte.
 // It uses bits to read and to write, and the vocabulary of rules.
 pub mod facts;
 pub mod layout;

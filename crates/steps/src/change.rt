@@ -5,7 +5,7 @@ ghost use Rattle.state.specs.declared.Number.the-variants.{CurrentOf, ToBackOf}
 ghost use Rattle.state.specs.Facts.{Peer};
 ghost use mathlib.Core.Bool.{false};
 ghost use Rattle.rules.specs.Bag.{isFull};
-ghost use Rattle.state.specs.Contents.{contents, Canon, Holds, store};
+ghost use Rattle.state.specs.Contents.{contents, Canon, Holds, store, currentOn, toBackOn, bagOn};
 ghost use Rattle.view.specs.Effect.{enterOn};
 ghost use Rattle.steps.specs.Stepped.{countersOf};
 use bag::append;
@@ -30,8 +30,9 @@ fn counters_of(s: &[u8], j: u8) -> Counters
 
 // Raises peer j's open period by one.
 pub fn raise_current(s: &mut [u8], j: u8)
-    requires { ⌜ Canon (now s) × Peer j × (contents (now s) .number (CurrentOf j) < 255) ⌝ }
-    ensures { λ _. ⌜ Holds (now (s .exit)) (store (CurrentOf j) (contents (now (s .entry)) .number (CurrentOf j) + 1) (contents (now (s .entry)))) ⌝ }
+    requires { ⌜ Canon (now s) × Peer j × (currentOn (now s) j < 255) ⌝ }
+    ensures { λ _. ⌜ Holds (now (s .exit)) (store (CurrentOf j) (currentOn (now (s .entry)) j + 1)
+        (contents (now (s .entry)))) ⌝ }
 {
     let k = counters::after_close(counters_of(s, j));
     set_value(s, Number::CurrentOf(j), k.current);
@@ -39,8 +40,9 @@ pub fn raise_current(s: &mut [u8], j: u8)
 
 // Raises the next period that peer j is to back by one.
 pub fn raise_to_back(s: &mut [u8], j: u8)
-    requires { ⌜ Canon (now s) × Peer j × (contents (now s) .number (ToBackOf j) < 255) ⌝ }
-    ensures { λ _. ⌜ Holds (now (s .exit)) (store (ToBackOf j) (contents (now (s .entry)) .number (ToBackOf j) + 1) (contents (now (s .entry)))) ⌝ }
+    requires { ⌜ Canon (now s) × Peer j × (toBackOn (now s) j < 255) ⌝ }
+    ensures { λ _. ⌜ Holds (now (s .exit)) (store (ToBackOf j) (toBackOn (now (s .entry)) j + 1)
+        (contents (now (s .entry)))) ⌝ }
 {
     let k = counters::after_back(counters_of(s, j));
     set_value(s, Number::ToBackOf(j), k.to_back);
@@ -48,7 +50,7 @@ pub fn raise_to_back(s: &mut [u8], j: u8)
 
 // Enters an entry, unless it is there; there is room for it.
 pub fn enter(s: &mut [u8], x: Entry)
-    requires { ⌜ Canon (now s) × (isFull x (contents (now s) .bag) ≡ false) ⌝ }
+    requires { ⌜ Canon (now s) × (isFull x (bagOn (now s)) ≡ false) ⌝ }
     ensures { λ _. ⌜ Holds (now (s .exit)) (enterOn x (contents (now (s .entry)))) ⌝ }
 {
     if is_in(s, x) {

@@ -51,7 +51,9 @@ module _ (h : Head) where
     sharedOk = onlyIn (periods * (items * peerBytes)) s sharedAt spots
 
     unfoldable pub knownOk : Bool
-    knownOk = onlyIn (peers * (periods * (items * peerBytes))) s databaseAt (inRows (h .n) (periods * (items * peerBytes)) spots)
+    knownOk =
+        onlyIn (peers * (periods * (items * peerBytes))) s databaseAt
+        (inRows (h .n) (periods * (items * peerBytes)) spots)
 
     -- the entries that each peer heard
     unfoldable pub heardOk : Bool

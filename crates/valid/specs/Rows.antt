@@ -46,7 +46,8 @@ abbrev pub tableMaskedIf : Bool → ℕ → List ℕ → ℕ → List ℕ → Bo
 tableMaskedIf there used s o m = onlyIn (periods * length m) s o (gated there (inRows used (length m) (bitAt m)))
 
 abbrev pub tablesMasked : ℕ → ℕ → List ℕ → ℕ → List ℕ → Bool
-tablesMasked n used s o m = onlyIn (peers * (periods * length m)) s o (inRows n (periods * length m) (inRows used (length m) (bitAt m)))
+tablesMasked n used s o m =
+    onlyIn (peers * (periods * length m)) s o (inRows n (periods * length m) (inRows used (length m) (bitAt m)))
 
 -- byte b of the row of bits f, and the w bytes of that row
 unfoldable pub byteOf : (ℕ → Bool) → ℕ → ℕ

@@ -1,5 +1,6 @@
--- Row 14: a buffer that is a state of the table. Its length is right; every set, counter, flag and entry is within the table's ranges;
--- c is at most p; no two entries are the same; every heard number is a hash entry; every unused byte is 0.
+-- Row 14: a buffer that is a state of the table. Its length is right; every set, counter, flag and entry is within
+-- the table's ranges; c is at most p; no two entries are the same; every heard number is a hash entry;
+-- every unused byte is 0.
 use Prim.Native.Nat.{ℕ, _+_, _*_}
 use mathlib.Core.Bool.{Bool, cond, _&&_, _||_, not}
 use mathlib.Core.List.{List}
@@ -40,7 +41,8 @@ module _ (h : Head) where
   unfoldable pub factsOk : List ℕ → Bool
   factsOk s = every (8 * currentAt) (λ a. not (bitAt s a) || factOk (contents s .bag) (factAt a))
 
-  -- of peer j: p is at most P, c at most p, and the flag d is 0 or 1; a peer that the table does not have has none of these
+  -- of peer j: p is at most P, c at most p, and the flag d is 0 or 1;
+  -- a peer that the table does not have has none of these
   unfoldable pub numbersOk : ℕ → ℕ → ℕ → ℕ → Bool
   numbersOk j p c d = cond (leb j (h .n)) (leb p (h .periods) && (leb c p && leb d 1)) (eqb (p + c + d) 0)
 

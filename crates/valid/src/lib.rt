@@ -1,5 +1,7 @@
-// Row 14 of the numbers on the report: whether a lent buffer is a state of the table. A state need not be one that steps lead to.
-// It uses bag_valid for the bag, and state's layout and bits for the rest. As bag_valid does, it reads bytes by their places.
+// Row 14 of the numbers on the report: whether a lent buffer is a state of the table.
+// A state need not be one that steps lead to.
+// It uses bag_valid for the bag, and state's layout and bits for the rest.
+// As bag_valid does, it reads bytes by their places.
 ghost use mathlib.Core.Path.{_≡_};
 ghost use Rattle.valid.specs.StateOk.{stateOk};
 ghost use Rattle.view.specs.Ready.{Room};

@@ -1,4 +1,5 @@
-// Rows of bits, of which some must be 0. The loops over bytes gather and ask at their end, so that they take many bytes at a time.
+// Rows of bits, of which some must be 0.
+// The loops over bytes gather and ask at their end, so that they take many bytes at a time.
 ghost use mathlib.Core.Path.{_≡_};
 ghost use Prim.Native.Nat.{_+_, _*_, _≤_};
 ghost use lib.ListN.{length};
@@ -47,7 +48,8 @@ pub(crate) fn each_row(s: &[u8], o: usize, rows: usize, used: usize, mask: &[u8]
     true
 }
 
-// Of one peer's rows, one for each period: where the table has the peer, whether each row is as above; where not, whether their bytes are 0.
+// Of one peer's rows, one for each period: where the table has the peer, whether each row is as above;
+// where not, whether their bytes are 0.
 fn table(s: &[u8], o: usize, there: bool, used: usize, mask: &[u8]) -> bool
     requires { ⌜ (length (now mask) ≤ 128) × (o + periods * length (now mask) ≤ length (now s)) ⌝ }
     ensures { λ r. ⌜ r ≡ tableMaskedIf there used (now (s .entry)) o (now (mask .entry)) ⌝ }

@@ -1,4 +1,5 @@
--- What a step that is not refused does to the contents: facts are added, numbers stored, entries appended. It is the effect of `rule`, with heard hashes by their entry numbers (proofs/Meets).
+-- What a step that is not refused does to the contents: facts are added, numbers stored, entries appended.
+-- It is the effect of `rule`, with heard hashes by their entry numbers (proofs/Meets).
 use Prim.Native.Nat.{_+_}
 use mathlib.Core.Bool.{cond}
 use Rattle.rules.specs.declared.Entry.{Entry}
@@ -21,7 +22,9 @@ enterOn e c = cond (isIn e (c .bag)) c (withEntry e c)
 unfoldable pub effectOn : Table → Contents → Step → Contents
 effectOn T c (Post x) = insert (Posted x) c
 effectOn T c (Hand j x) = insert (Held j (c .number (CurrentOf j)) x) c
-effectOn T c (Sign j x) = insert (Known j (c .number (CurrentOf j)) x j) (insert (Signed j (c .number (CurrentOf j)) x) c)
+effectOn T c (Sign j x) =
+    let p = c .number (CurrentOf j) in
+    insert (Known j p x j) (insert (Signed j p x) c)
 effectOn T c (Take j k p x) = insert (Known j p x k) c
 effectOn T c (Share j x) = insert (Shared j (c .number (CurrentOf j)) x) c
 effectOn T c (Receipt p x) = insert (Receipted p x) c
@@ -29,7 +32,9 @@ effectOn T c (Close j) = store (CurrentOf j) (c .number (CurrentOf j) + 1) c
 effectOn T c (Fetch j k p) = fetched j k p c
 effectOn T c (SendHash j p) = enterOn (Hash j p (boardBy T (stateOf c) j p)) c
 effectOn T c (Hear j e) = insert (Heard j e) c
-effectOn T c (Back j) = store (ToBackOf j) (c .number (ToBackOf j) + 1) (enterOn (Backing j (c .number (ToBackOf j)) (boardBy T (stateOf c) j (c .number (ToBackOf j)))) c)
+effectOn T c (Back j) =
+    let q = c .number (ToBackOf j) in
+    store (ToBackOf j) (q + 1) (enterOn (Backing j q (boardBy T (stateOf c) j q)) c)
 effectOn T c (Publish e) = enterOn (boardNamed (c .bag) e) c
 effectOn T c (FalseSignature j p x) = insert (Signed j p x) c
 effectOn T c (FalseShare j p x) = insert (Shared j p x) c

@@ -1,4 +1,5 @@
--- Good contents: what row 14 asks of what the bytes say. It is that the state of the rules is valid, and what only bytes can break.
+-- Good contents: what row 14 asks of what the bytes say.
+-- It is that the state of the rules is valid, and what only bytes can break.
 use Prim.Native.Nat.{ℕ, _<_}
 use mathlib.Core.Bool.{true}
 use mathlib.Core.Path.{_≡_}

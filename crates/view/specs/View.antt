@@ -7,20 +7,28 @@ use Rattle.base.specs.Bits.{bit}
 use Rattle.rules.specs.declared.Entry.{Entry}
 use Rattle.rules.specs.declared.Entry.the-variants.{Hash}
 use Rattle.rules.specs.declared.Step.{Step}
-use Rattle.rules.specs.Table.{Table}
-use Rattle.rules.specs.Bag.{sameEntry}
+use Rattle.rules.specs.Table.{Table, quorum}
+use Rattle.rules.specs.Bag.{sameEntry, entryAt}
 use Rattle.rules.specs.State.{State}
-use Rattle.rules.specs.Rules.{answer, boardBy}
+use Rattle.rules.specs.Rules.{answer, boardBy, backers}
 use Rattle.state.specs.declared.Fact.the-variants.{Posted, Signed, Shared, Receipted, Held, Known, Heard}
 use Rattle.state.specs.declared.Number.the-variants.{CurrentOf, ToBackOf, DownOf}
-use Rattle.state.specs.Contents.{Contents, contents}
+use Rattle.state.specs.Contents.{Contents, contents, toBackOn, bagOn}
 use Rattle.header.specs.declared.Head.{Head}
 use Rattle.header.specs.Header.{isHonest}
 use Rattle.header.specs.Quorum.{weightOf}
 
 -- the table of the rules
 abbrev pub tableOf : Head → (ℕ → ℕ → Bool) → Table
-tableOf h clash = record { n = h .n; t = h .t; honest = isHonest h; weightOf = weightOf h; periods = h .periods; items = h .items; clash = clash }
+tableOf h clash = record {
+  n = h .n;
+  t = h .t;
+  honest = isHonest h;
+  weightOf = weightOf h;
+  periods = h .periods;
+  items = h .items;
+  clash = clash;
+}
 
 -- of most steps the rules do not ask what clashes: they are judged as if nothing did
 abbrev pub noClash : ℕ → ℕ → Bool
@@ -51,6 +59,14 @@ stateOf c = record {
   toBack = λ j. c .number (ToBackOf j);
 }
 
+-- the state of the rules that the bytes say
+abbrev pub stateOn : List ℕ → State
+stateOn s = stateOf (contents s)
+
+-- a set of peers that reaches t
+abbrev pub quorumOf : Head → (ℕ → Bool) → Bool
+quorumOf h S = quorum (tableOf h noClash) S
+
 -- the answer of the rules to a step on what the bytes say
 abbrev pub answerOn : Head → (ℕ → ℕ → Bool) → List ℕ → Step → ℕ
 answerOn h clash s st = answer (tableOf h clash) (stateOf (contents s)) st
@@ -58,3 +74,19 @@ answerOn h clash s st = answer (tableOf h clash) (stateOf (contents s)) st
 -- peer j's board of period p, by what the bytes say
 abbrev pub boardOn : Head → List ℕ → ℕ → ℕ → ℕ
 boardOn h s j p = boardBy (tableOf h noClash) (stateOf (contents s)) j p
+
+-- its board of the next period that it backs
+abbrev pub nextBoardOn : Head → List ℕ → ℕ → ℕ
+nextBoardOn h s j = boardOn h s j (toBackOn s j)
+
+-- entry e of the bag
+abbrev pub entryOn : List ℕ → ℕ → Entry
+entryOn s e = entryAt (bagOn s) e
+
+-- the signers of the backings of period p and board B
+abbrev pub backersOn : List ℕ → ℕ → ℕ → ℕ → Bool
+backersOn s p B = backers (bagOn s) p B
+
+-- the signers of the hashes of period p and board B that peer j heard
+abbrev pub heardOn : List ℕ → ℕ → ℕ → ℕ → ℕ → Bool
+heardOn s j p B = λ k. stateOf (contents s) .heard j k p B
