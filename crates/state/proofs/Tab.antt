@@ -41,7 +41,8 @@ module _ {A : Type 0} where
   -- a list is that of its elements
   pub tab-getD : (l : List A) (d : A) → tab (length l) (λ k. getD l k d) ≡ l
   tab-getD l d =
-      ext-getD d (tab (length l) at) l (length-tab (length l) at) (λ i h. getD-tab (length l) at i d (omega (arith, length-tab (length l) at)))
+      ext-getD d (tab (length l) at) l (length-tab (length l) at)
+      (λ i h. getD-tab (length l) at i d (omega (arith, length-tab (length l) at)))
     where
       at : ℕ → A
       at k = getD l k d
@@ -51,7 +52,8 @@ module _ {A : Type 0} where
   pub filled-none : (d : A) (m : ℕ) (f : ℕ → A) (l : List A) → length l ≡ m → FilledTo d m f 0 l
   filled-none d m f l e = record { long = e; each = λ k q. absurd (not-suc-le-zero q) }
 
-  pub filled-more : (d : A) (m : ℕ) (f : ℕ → A) (n : ℕ) (l : List A) (v : A) → n < m → v ≡ f n → FilledTo d m f n l → FilledTo d m f (n + 1) (set l n v)
+  pub filled-more : (d : A) (m : ℕ) (f : ℕ → A) (n : ℕ) (l : List A) (v : A) → n < m → v ≡ f n → FilledTo d m f n l
+      → FilledTo d m f (n + 1) (set l n v)
   filled-more d m f n l v h e w = record { long = length-set l n v ∙ w .long; each = λ k q. go k q (ℕ-discrete k n) }
     where
       go : (k : ℕ) → k < n + 1 → Dec (k ≡ n) → getD (set l n v) k d ≡ f k
@@ -60,4 +62,5 @@ module _ {A : Type 0} where
 
   pub filled-all : (d : A) (m : ℕ) (f : ℕ → A) (n : ℕ) (l : List A) → m ≤ n → FilledTo d m f n l → l ≡ tab m f
   filled-all d m f n l o w =
-      ext-getD d l (tab m f) (w .long ∙ sym (length-tab m f)) (λ i h. let k : i < m = omega (arith, w .long) in w .each i (omega arith) ∙ sym (getD-tab m f i d k))
+      ext-getD d l (tab m f) (w .long ∙ sym (length-tab m f))
+      (λ i h. let k : i < m = omega (arith, w .long) in w .each i (omega arith) ∙ sym (getD-tab m f i d k))
