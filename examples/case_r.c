@@ -11,26 +11,28 @@
 #include <stdlib.h>
 #include <string.h>
 
-enum { STEP = 13, BAG_COUNT = 20088, BAG = 20090, ENTRY = 11 };
-
 /* one peer, threshold 1, peer 1 honest, one period, one item: audit of ballot 7 */
 static const uint8_t table[] = {1, 1, 0, 1, 1, 1, 0, 10, 0, 5, 0, 0, 0, 7, 2};
 
-/* op, peer, other, period, item, and a board of eight bytes */
-static const uint8_t steps[][STEP] = {
-    {1},                  /* post item 0 */
-    {2, 1},               /* hand it to peer 1 */
-    {3, 1},               /* peer 1 signs it */
-    {5, 1},               /* and gives its receipt share */
-    {6},                  /* the receipt */
-    {7, 1},               /* peer 1 closes period 0 */
-    {9, 1},               /* sends the hash of its board: entry 0 */
-    {10, 1},              /* hears it */
-    {11, 1},              /* backs the board: entry 1 */
-    {12, 0, 0, 0, 1},     /* the board is published: entry 2 */
+/* a step that uses no other fields than these; those that its op does not use are 0 */
+#define STEP(op, peer, item_or_entry) \
+    {[BOARD_STEP_OP_AT] = op, [BOARD_STEP_PEER_AT] = peer, [BOARD_STEP_ITEM_AT] = item_or_entry}
+
+/* peer 1 and, but for the last, item, period and entry 0 */
+static const uint8_t steps[][BOARD_STEP_LENGTH] = {
+    STEP(BOARD_OP_POST, 0, 0),    /* item 0 is posted */
+    STEP(BOARD_OP_HAND, 1, 0),    /* it is handed to peer 1 */
+    STEP(BOARD_OP_SIGN, 1, 0),    /* peer 1 signs it */
+    STEP(BOARD_OP_SHARE, 1, 0),   /* and gives its receipt share */
+    STEP(BOARD_OP_RECEIPT, 0, 0), /* the receipt */
+    STEP(BOARD_OP_CLOSE, 1, 0),   /* peer 1 closes period 0 */
+    STEP(BOARD_OP_HASH, 1, 0),    /* sends the hash of its board: entry 0 */
+    STEP(BOARD_OP_HEAR, 1, 0),    /* hears it */
+    STEP(BOARD_OP_BACK, 1, 0),    /* backs the board: entry 1 */
+    STEP(BOARD_OP_PUBLISH, 0, 1), /* the board is published: entry 2 */
 };
 
-/* the whole report, as document 01 prints it */
+/* the whole report */
 static const char report[] =
     "peers 1 threshold 1 honest 1\n"
     "1 0\n2 0\n3 0\n4 0\n5 0\n6 0\n7 0\n8 0\n9 0\n10 0\n"
@@ -38,18 +40,20 @@ static const char report[] =
 
 /* Step by step from the fresh state, to a bag with the board in it. */
 static int is_stepped(uint8_t *state, size_t length) {
-    int good = board_fresh(table, sizeof table, state, length) == 0;
-    for (size_t i = 0; good && i < sizeof steps / STEP; i++) {
-        uint8_t answer = board_step(table, sizeof table, state, length, steps[i], STEP);
+    int good = board_fresh(table, sizeof table, state, length) == BOARD_DONE;
+    for (size_t i = 0; good && i < sizeof steps / BOARD_STEP_LENGTH; i++) {
+        uint8_t answer = board_step(table, sizeof table, state, length, steps[i], BOARD_STEP_LENGTH);
         printf("%zu %d\n", i + 1, answer);
-        good = answer == 0;
+        good = answer == BOARD_DONE;
     }
-    const uint8_t *board = state + BAG + 2 * ENTRY;
+    const uint8_t *count = state + BOARD_STATE_COUNT_AT;
+    const uint8_t *last = state + BOARD_STATE_BAG_AT + 2 * BOARD_ENTRY_LENGTH;
     if (good) {
-        printf("entries %d, the last: kind %d, period %d, items %d\n",
-               state[BAG_COUNT], board[0], board[2], board[3]);
+        printf("entries %d, the last: kind %d, period %d, items %d\n", count[0],
+               last[BOARD_ENTRY_KIND_AT], last[BOARD_ENTRY_PERIOD_AT], last[BOARD_ENTRY_BOARD_AT]);
     }
-    return good && state[BAG_COUNT] == 3 && board[0] == 3 && board[3] == 1;
+    return good && count[0] == 3 && last[BOARD_ENTRY_KIND_AT] == BOARD_ENTRY_BOARD
+        && last[BOARD_ENTRY_BOARD_AT] == 1;
 }
 
 /* At once: the report, and the state that the steps led to. */

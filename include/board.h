@@ -1,9 +1,23 @@
-/* The peered ballot board: the proved engine, for C.
+/* The peered ballot board: the proved engine, for C99 and C++.
  *
- * A slice is a pointer, never null, and a length. Table, state, step and input
- * are any bytes; what is written, state and out, overlaps nothing else. Answers
- * are the numbers on the report: 0 is taken, and of what is refused no byte of
- * the state changes. */
+ *   docs/TABLE.md    a table's bytes
+ *   docs/STEPS.md    a step's bytes, and what each step does
+ *   docs/ANSWERS.md  the numbers that are answered, and when
+ *   docs/STATE.md    a state's bytes
+ *   docs/PROMISES.md what is proved of these functions, and what is trusted
+ *
+ * Slices: a pointer and a length. Table, state, step and input may be any bytes
+ *   of any length. What is written, state and out, overlaps nothing else that
+ *   is lent.
+ * Null: no pointer is ever null, also where its length is 0.
+ * Alignment: none is asked; everything is bytes.
+ * Threads: there are no globals and no call keeps a pointer, so calls on
+ *   distinct buffers may run in parallel; a buffer that is written belongs to
+ *   one call at a time.
+ * Linking: nothing is allocated, and of the C library only memcpy and memset
+ *   are called.
+ * Refusals: a refused call alters no byte of the state.
+ */
 #ifndef BOARD_H
 #define BOARD_H
 
@@ -14,27 +28,158 @@
 extern "C" {
 #endif
 
-/* The length of a state buffer, in bytes. */
+/* Rises when a function, a number or a layout of this file changes. */
+#define BOARD_VERSION 1
+
+/* The answers, by their words. A number that is not here is a refusal too. */
+enum board_answer {
+    BOARD_DONE = 0,
+    BOARD_HEADER = 1,
+    BOARD_PAIRS = 2,
+    BOARD_ITEM = 3,
+    BOARD_TWIN = 4,
+    BOARD_FORM = 5,
+    BOARD_NAME = 6,
+    BOARD_ROLE = 7,
+    BOARD_DOWN = 8,
+    BOARD_PERIOD = 9,
+    BOARD_UNKNOWN = 10,
+    BOARD_CLASH = 11,
+    BOARD_SHORT = 12,
+    BOARD_FULL = 13,
+    BOARD_STATE = 14,
+    BOARD_INPUT = 15
+};
+
+/* The steps, by their words; beside each the fields that it uses. */
+enum board_op {
+    BOARD_OP_POST = 1,             /* item */
+    BOARD_OP_HAND = 2,             /* peer, item */
+    BOARD_OP_SIGN = 3,             /* peer, item */
+    BOARD_OP_TAKE = 4,             /* peer, other, period, item */
+    BOARD_OP_SHARE = 5,            /* peer, item */
+    BOARD_OP_RECEIPT = 6,          /* period, item */
+    BOARD_OP_CLOSE = 7,            /* peer */
+    BOARD_OP_FETCH = 8,            /* peer, other, period */
+    BOARD_OP_HASH = 9,             /* peer, period */
+    BOARD_OP_HEAR = 10,            /* peer, entry */
+    BOARD_OP_BACK = 11,            /* peer */
+    BOARD_OP_PUBLISH = 12,         /* entry */
+    BOARD_OP_FALSE_SIGNATURE = 13, /* peer, period, item */
+    BOARD_OP_FALSE_SHARE = 14,     /* peer, period, item */
+    BOARD_OP_FALSE_HASH = 15,      /* peer, period, board */
+    BOARD_OP_FALSE_BACKING = 16,   /* peer, period, board */
+    BOARD_OP_DOWN = 17,            /* peer */
+    BOARD_OP_UP = 18               /* peer */
+};
+
+/* The most that a table can have, and the most entries of a bag. Peers count
+ * from 1; periods, items and entries from 0. */
+#define BOARD_PEERS_MOST 16
+#define BOARD_PERIODS_MOST 8
+#define BOARD_ITEMS_MOST 64
+#define BOARD_ENTRIES_MOST 256
+
+/* A step: at which byte each field stands. Fields that the op does not use
+ * are 0. */
+#define BOARD_STEP_LENGTH 13
+#define BOARD_STEP_OP_AT 0
+#define BOARD_STEP_PEER_AT 1
+#define BOARD_STEP_OTHER_AT 2
+#define BOARD_STEP_PERIOD_AT 3
+#define BOARD_STEP_ITEM_AT 4
+#define BOARD_STEP_ENTRY_AT 4 /* an entry number travels in the item's byte */
+#define BOARD_STEP_BOARD_AT 5 /* 8 bytes, high first: the bit worth 2^i is item i */
+
+/* A table: the header's fields, then a pair for each item, then the items.
+ * Numbers of several bytes have their high byte first. */
+#define BOARD_TABLE_PEERS_AT 0
+#define BOARD_TABLE_THRESHOLD_AT 1
+#define BOARD_TABLE_HONEST_AT 2 /* 2 bytes: the bit worth 2^(k - 1) is peer k */
+#define BOARD_TABLE_PERIODS_AT 4
+#define BOARD_TABLE_ITEMS_AT 5
+#define BOARD_TABLE_PAIRS_AT 6
+#define BOARD_TABLE_MOST 2630 /* no table is longer */
+
+/* A pair: where its item stands in the table. */
+#define BOARD_PAIR_LENGTH 4
+#define BOARD_PAIR_OFFSET_AT 0 /* 2 bytes */
+#define BOARD_PAIR_SIZE_AT 2   /* 2 bytes */
+
+/* An item: 4 bytes of ballot number, the kind, and of a vote its preferences. */
+#define BOARD_ITEM_BALLOT_AT 0
+#define BOARD_ITEM_KIND_AT 4
+#define BOARD_ITEM_PREFERENCES_AT 5
+#define BOARD_PREFERENCES_MOST 32
+
+enum board_item_kind {
+    BOARD_ITEM_VOTE = 1,
+    BOARD_ITEM_AUDIT = 2,
+    BOARD_ITEM_CANCELLATION = 3
+};
+
+/* A state: at which byte each part begins. A set is a row of bits, in which bit
+ * a is bit a % 8 of byte a / 8; beside each set is the bit of peer j or k,
+ * period p, item i, entry e. */
+#define BOARD_STATE_LENGTH 22906
+#define BOARD_STATE_POSTED_AT 0      /* i */
+#define BOARD_STATE_SIGNED_AT 8      /* (64 p + i) 16 + k - 1 */
+#define BOARD_STATE_SHARED_AT 1032   /* (64 p + i) 16 + k - 1 */
+#define BOARD_STATE_RECEIPTED_AT 2056 /* 64 p + i */
+#define BOARD_STATE_HELD_AT 2120     /* (8 (j - 1) + p) 64 + i */
+#define BOARD_STATE_DATABASES_AT 3144 /* ((8 (j - 1) + p) 64 + i) 16 + k - 1 */
+#define BOARD_STATE_HEARD_AT 19528   /* 256 (j - 1) + e */
+#define BOARD_STATE_OPEN_AT 20040    /* p, the open period of peer j: byte j - 1 */
+#define BOARD_STATE_NEXT_AT 20056    /* c, its next period to back: byte j - 1 */
+#define BOARD_STATE_DOWN_AT 20072    /* 1 if peer j is down, or 0: byte j - 1 */
+#define BOARD_STATE_COUNT_AT 20088   /* the bag's entries: 2 bytes, low first */
+#define BOARD_STATE_BAG_AT 20090     /* entry e begins BOARD_ENTRY_LENGTH e later */
+
+/* An entry of the bag. */
+#define BOARD_ENTRY_LENGTH 11
+#define BOARD_ENTRY_KIND_AT 0
+#define BOARD_ENTRY_SIGNER_AT 1 /* 0 for a board */
+#define BOARD_ENTRY_PERIOD_AT 2
+#define BOARD_ENTRY_BOARD_AT 3  /* 8 bytes, low first: the bit worth 2^i is item i */
+
+enum board_entry_kind {
+    BOARD_ENTRY_HASH = 1,
+    BOARD_ENTRY_BACKING = 2,
+    BOARD_ENTRY_BOARD = 3
+};
+
+/* A rehearsal: the most bytes of input that are judged, and the length of an
+ * output that has room for every report. */
+#define BOARD_INPUT_MOST 65536
+#define BOARD_REPORT_MOST 222000
+
+/* Judges a table: 0, or 1 to 4. */
+uint8_t board_check_table(const uint8_t *table, size_t table_length);
+
+/* The length of a state buffer, in bytes: BOARD_STATE_LENGTH. */
 size_t board_state_length(void);
 
-/* Makes the state fresh: 0, or 1 to 4 for the table, or 14 for the length. */
+/* Makes the state fresh, whatever its bytes were: 0, or 1 to 4 for the table,
+ * or 14 for the state's length. */
 uint8_t board_fresh(const uint8_t *table, size_t table_length,
                     uint8_t *state, size_t state_length);
 
-/* Takes a step of 13 bytes: 0, or the first refusal that applies, of the table
- * (1 to 4), of the state (14), of the step's form (5), of the step (6 to 13). */
+/* Takes a step: 0, or the first refusal that applies, of the table (1 to 4), of
+ * the state (14), of the step's form (5), of the step (6 to 13). */
 uint8_t board_step(const uint8_t *table, size_t table_length,
                    uint8_t *state, size_t state_length,
                    const uint8_t *step, size_t step_length);
 
-/* The length of an output that has room for every report, in bytes. */
+/* The length of an output that has room for every report, in bytes:
+ * BOARD_REPORT_MOST. */
 size_t board_report_most(void);
 
-/* Rehearses the input, a table and steps: the report's length in bytes, of
- * which as many as fit are written to out.
- * The state then is the one that the steps led to; a refused input, whose
- * report is `refused N`, leaves it as it was. For a state of another length
- * than board_state_length() it answers 0 and writes nothing. */
+/* Rehearses the input, a table and then steps, from a fresh state: the report's
+ * length in bytes, of which as many as fit are written to out.
+ * The state then is the one that the steps led to, whatever its bytes were. An
+ * input that is refused (15, or 1 to 4), or a state of another length than
+ * BOARD_STATE_LENGTH (14, judged after these), has the report `refused N`, one
+ * line, and leaves the state as it was. */
 size_t board_rehearse(const uint8_t *input, size_t input_length,
                       uint8_t *state, size_t state_length,
                       uint8_t *out, size_t out_length);

@@ -1,25 +1,22 @@
-//! That both engines do the same, before anything is timed.
+//! That both engines do on the inputs what the reference does, before anything
+//! is timed. The gate compares them on many more.
 
-use crate::engines::{Engine, PLAIN, PROVED};
-use crate::{parts, OUT};
-use engine::layout::LENGTH;
-use inputs::random::Random;
+use crate::OUT;
+use engine::layout::{encode, LENGTH};
+use engine::pair::Pair;
+use engine::{Engine, ENGINES};
+use inputs::rehearsed::Rehearsed;
+use reference::report::rehearse;
 use std::path::Path;
 
-const ENGINES: [Engine; 2] = [PLAIN, PROVED];
-
-/// The input's answers, states and report; and calls with a byte changed.
-pub fn input(bytes: &[u8], answers: &[u8]) {
-    let (table, steps) = parts(bytes);
-    let mut random = Random::new(1, 0);
-    let mut state = vec![0xA5; LENGTH];
-    fresh(table, &mut state);
-    for (given, answer) in steps.iter().zip(answers) {
-        damaged(&mut random, table, &state, given);
-        assert_eq!(step(table, &mut state, given), *answer, "step {given:?}");
-    }
-    let (_, after) = report(bytes);
-    assert!(after == state, "the rehearsal leads to another state");
+/// The answers to the input's steps, the same from all, with the same states.
+pub fn input(bytes: &[u8]) -> Vec<u8> {
+    let rehearsed = Rehearsed::new(bytes);
+    let outcome = rehearsed.outcome.as_ref().expect("a valid table");
+    let mut pair = Pair::fresh(bytes[..outcome.end].to_vec());
+    rehearsed.calls().for_each(|(step, answer)| assert_eq!(pair.call(step), answer));
+    report(bytes, &rehearse(bytes), Some(encode(&outcome.state)));
+    outcome.answers.clone()
 }
 
 /// The stored reports of the cases; how many there are.
@@ -29,56 +26,19 @@ pub fn cases(folder: &Path) -> usize {
         let path = file.expect("a file").path();
         if path.extension().is_some_and(|end| end == "bin") {
             let stored = std::fs::read(path.with_extension("out")).expect("a stored report");
-            let (text, _) = report(&std::fs::read(&path).expect("a case"));
-            assert!(text == stored, "{}: another report", path.display());
+            report(&std::fs::read(&path).expect("a case"), &stored, None);
             count += 1;
         }
     }
     count
 }
 
-/// The same of both engines.
-fn same<T: PartialEq>(what: &str, run: impl Fn(&Engine) -> T) -> T {
-    let [first, second] = ENGINES.map(|engine| run(&engine));
-    assert!(first == second, "the engines differ: {what}");
-    first
-}
-
-fn fresh(table: &[u8], state: &mut Vec<u8>) -> u8 {
-    let (answer, after) = same("fresh", |engine| {
-        let mut after = state.clone();
-        ((engine.fresh)(table, &mut after), after)
-    });
-    *state = after;
-    answer
-}
-
-fn step(table: &[u8], state: &mut Vec<u8>, given: &[u8]) -> u8 {
-    let (answer, after) = same("step", |engine| {
-        let mut after = state.clone();
-        ((engine.step)(table, &mut after, given), after)
-    });
-    *state = after;
-    answer
-}
-
-/// The report and the state after it.
-fn report(input: &[u8]) -> (Vec<u8>, Vec<u8>) {
-    same("report", |engine| {
+/// Each engine gives the report and, if it is known, leaves the state.
+fn report(input: &[u8], expected: &[u8], after: Option<Vec<u8>>) {
+    for Engine { name, rehearse, .. } in ENGINES {
         let (mut state, mut out) = (vec![0; LENGTH], vec![0; OUT]);
-        let length = (engine.rehearse)(input, &mut state, &mut out);
-        out.truncate(length);
-        (out, state)
-    })
-}
-
-/// The step on copies of table, state and step of which one has a byte changed.
-fn damaged(random: &mut Random, table: &[u8], state: &[u8], given: &[u8]) {
-    let mut copies = [table.to_vec(), state.to_vec(), given.to_vec()];
-    let copy = &mut copies[random.below(3)];
-    let at = random.below(copy.len());
-    copy[at] = [random.bits() as u8, copy[at] ^ 1 << random.below(8)][random.below(2)];
-    let [table, mut state, given] = copies;
-    fresh(&table, &mut state.clone());
-    step(&table, &mut state, &given);
+        let length = rehearse(input, &mut state, &mut out);
+        assert!(out[..length] == *expected, "{name}: another report");
+        assert!(after.as_ref().is_none_or(|after| *after == state), "{name}: another state");
+    }
 }

@@ -12,12 +12,11 @@ mod check;
 mod engines;
 mod measure;
 mod ops;
-mod plain;
-mod protocol;
 
-use inputs::answers::OPS;
+use inputs::answers::ROWS;
+use inputs::protocol::PROTOCOLS;
 use measure::{Bench, CALLS};
-use protocol::{make, SHAPES};
+use std::collections::BTreeMap;
 use std::fs;
 use std::path::Path;
 
@@ -44,9 +43,8 @@ fn main() {
 }
 
 fn write_inputs(folder: &Path) {
-    for shape in &SHAPES {
-        let (input, _) = make(shape);
-        fs::write(folder.join(shape.name), input).expect("a folder to write to");
+    for protocol in &PROTOCOLS {
+        fs::write(folder.join(protocol.name), protocol.input()).expect("a folder to write to");
     }
 }
 
@@ -67,10 +65,10 @@ fn count(engine: &str, call: &str, input: &str, op: Option<u8>) {
 
 fn print_times(cases: &Path) {
     println!("cases: {} reports as stored, from both engines", check::cases(cases));
-    for shape in &SHAPES {
-        let (input, answers) = make(shape);
-        check::input(&input, &answers);
-        println!("\n{}: {} bytes, {} steps", shape.name, input.len(), answers.len());
+    for protocol in &PROTOCOLS {
+        let input = protocol.input();
+        let answers = check::input(&input);
+        println!("\n{}: {} bytes, {} steps", protocol.name, input.len(), answers.len());
         print_mix(&input, &answers);
         println!("{:24} {:>10} {:>10} {:>7}", "nanoseconds", "plain", "proved", "ratio");
         let mut bench = Bench::over(&input);
@@ -81,33 +79,29 @@ fn print_times(cases: &Path) {
     }
 }
 
-/// How many steps of each op there are.
-fn by_op(input: &[u8]) -> [usize; OPS.len()] {
-    let mut times = [0; OPS.len()];
-    for given in parts(input).1 {
-        times[given[0] as usize] += 1;
-    }
-    times
+/// The ops that there are: number, name, and how many steps.
+fn by_op(input: &[u8]) -> Vec<(u8, &'static str, usize)> {
+    let steps = parts(input).1;
+    let times = |op: u8| steps.iter().filter(|given| given[0] == op).count();
+    let rows = ROWS.iter().map(|row| (row.op, row.name, times(row.op)));
+    rows.filter(|row| row.2 > 0).collect()
 }
 
 fn print_ops(input: &[u8]) {
-    for (op, times) in by_op(input).into_iter().enumerate() {
-        if times > 0 {
-            println!("{op} {} ({times})", OPS[op]);
-        }
+    for (op, name, times) in by_op(input) {
+        println!("{op} {name} ({times})");
     }
 }
 
 /// The ops that there are, and the answers that they got.
 fn print_mix(input: &[u8], answers: &[u8]) {
-    let there = by_op(input).into_iter().zip(OPS).filter(|(times, _)| *times > 0);
-    let named: Vec<String> = there.map(|(times, name)| format!("{name} {times}")).collect();
+    let there = by_op(input).into_iter();
+    let named: Vec<String> = there.map(|(_, name, times)| format!("{name} {times}")).collect();
     println!("steps: {}", named.join(", "));
-    let times = |answer: u8| answers.iter().filter(|given| **given == answer).count();
-    let refused: Vec<String> = (1..16)
-        .filter(|answer| times(*answer) > 0)
-        .map(|answer| format!("{answer}: {}", times(answer)))
-        .collect();
-    let taken = 100.0 * times(0) as f64 / answers.len() as f64;
+    let mut times: BTreeMap<u8, usize> = BTreeMap::new();
+    answers.iter().for_each(|answer| *times.entry(*answer).or_default() += 1);
+    let taken = 100.0 * times.remove(&0).unwrap_or(0) as f64 / answers.len() as f64;
+    let told = times.iter().map(|(answer, times)| format!("{answer}: {times}"));
+    let refused: Vec<String> = told.collect();
     println!("taken {taken:.1}%; refused with {}", refused.join(", "));
 }

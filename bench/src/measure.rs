@@ -1,9 +1,9 @@
 //! The three calls measured: times in one run side by side, and rounds of one
 //! engine alone for a tool that counts instructions.
 
-use crate::engines::{Engine, PLAIN, PROVED};
 use crate::{parts, OUT};
 use engine::layout::LENGTH;
+use engine::{Engine, PLAIN, PROVED};
 use std::hint::black_box;
 use std::time::Instant;
 

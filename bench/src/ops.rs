@@ -1,9 +1,9 @@
 //! Steps of one op alone, on the states that an input leads to.
 
-use crate::engines::Engine;
 use crate::parts;
-use crate::plain::Run;
 use engine::layout::LENGTH;
+use engine::Engine;
+use plain::Run;
 use std::hint::black_box;
 
 /// Calls each step of the op, or no step at all (5) if `empty`, on a copy of

@@ -16,10 +16,10 @@ use Rattle.rules.specs.declared.Entry.{Entry}
 use Rattle.state.specs.Layout.{entries, countAt, bagAt, entrySize, entryStart, signerIn, periodIn, boardIn, countBytes, itemBytes}
 use Rattle.rules.specs.Bag.{kindOf, signerOf, periodOf, boardOf}
 use Rattle.state.specs.Entries.{EntryFits}
-use Rattle.state.specs.Tab.{tab}
+use Rattle.base.specs.Tab.{tab}
 use Rattle.state.specs.Contents.{count, entryAt, contents, Settled, Canon, Holds, withEntry}
 use Rattle.bag.specs.Bag.{written, entered, appended}
-use Rattle.state.proofs.Tab.{tab-ext, tab-more}
+use Rattle.base.proofs.Tab.{tab-ext, tab-more}
 use Rattle.state.proofs.Entries.{entry-of, kind-lt}
 use Rattle.state.proofs.Encode.{bag-length}
 use Rattle.state.proofs.Frame as frame

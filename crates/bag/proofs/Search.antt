@@ -21,7 +21,7 @@ use Rattle.rules.proofs.Bag.{same-self, eq-of-same, in-at, at-in}
 use Rattle.state.specs.Entries.{entryOf}
 use Rattle.state.specs.Contents.{count, entryAt, contents, Canon}
 use Rattle.bag.specs.Bag.{signerWith, writtenSigner, isWritten}
-use Rattle.state.proofs.Tab.{getD-tab-out}
+use Rattle.base.proofs.Tab.{getD-tab-out}
 use Rattle.state.proofs.Encode.{bag-length, entry-nth, entry-period, entry-board}
 
 -- an entry that is not there

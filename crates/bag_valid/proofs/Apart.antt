@@ -21,9 +21,9 @@ use Rattle.rules.proofs.Bag.{in-append, eq-of-same, same-self}
 use Rattle.state.specs.Layout.{periods}
 use Rattle.rules.specs.Bag.{kindOf, signerOf, periodOf, boardOf}
 use Rattle.state.specs.Entries.{entryOf}
-use Rattle.state.specs.Tab.{tab}
+use Rattle.base.specs.Tab.{tab}
 use Rattle.state.specs.Contents.{count, entryAt, contents}
-use Rattle.state.proofs.Tab.{tab-more}
+use Rattle.base.proofs.Tab.{tab-more}
 use Rattle.state.proofs.Entries.{entry-of, period-of, board-of}
 use Rattle.header.specs.declared.Head.{Head}
 use Rattle.bag_valid.specs.BagOk.{entryAtOk}

@@ -20,9 +20,9 @@ use Rattle.rules.specs.Bag.{kindOf, signerOf, noEntry, isIn}
 use Rattle.rules.specs.Valid.{InTable, BagIn, different}
 use Rattle.rules.proofs.Bag.{in-at, at-in}
 use Rattle.state.specs.Layout.{entries, entryStart, signerIn, size}
-use Rattle.state.specs.Tab.{tab}
+use Rattle.base.specs.Tab.{tab}
 use Rattle.state.specs.Contents.{count, entryAt, contents, Canon}
-use Rattle.state.proofs.Tab.{length-tab, getD-tab}
+use Rattle.base.proofs.Tab.{length-tab, getD-tab}
 use Rattle.state.proofs.Encode.{bag-length}
 use Rattle.header.specs.declared.Head.{Head}
 use Rattle.view.specs.View.{tableOf}

@@ -60,9 +60,10 @@ module _ (s : List ℕ) where
 
   pub seen-more : (seen : List ℕ) (j : ℕ) {m : ℕ} → Seen s seen j → m ≡ markAt s j → Seen s (set seen m 1) (j + 1)
   seen-more seen j {m} S m-is =
+      let there : m < length seen = omega (arith, S .long, mark-fits j m-is) in
       record {
         long = length-set seen m 1 ∙ S .long;
-        marked = marked-more (markAt s) (isIn seen) _ j m (S .marked) m-is (λ x. in-more seen m x (omega (arith, S .long, mark-fits j m-is)));
+        marked = marked-more (markAt s) (isIn seen) _ j m (S .marked) m-is (λ x. in-more seen m x there);
       }
 
   -- an item whose mark is not seen has a text of its own

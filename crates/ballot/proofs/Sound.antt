@@ -4,9 +4,10 @@ use native.Mathlib.Omega.{arith}
 use mathlib.Core.Bool.{true, false}
 use mathlib.Core.List.{List}
 use mathlib.Core.Logic.{_⊎_, inl, inr}
-use mathlib.Core.Path.{_≡_, refl, sym}
+use mathlib.Core.Path.{_≡_, refl, sym, ap, _∙_}
 use lib.Dec.{ltb}
-use borrow.Author.Tests.{ltb-true, ltb-false, not-true, not-false}
+use lib.ListN.{length}
+use borrow.Author.Tests.{lt-ltb, ltb-true, ltb-false, not-true, not-false}
 use Rattle.base.proofs.Truth.{split, either}
 use Rattle.base.proofs.Below.{every-at}
 use Rattle.base.proofs.Bytes.{same-of-eq}
@@ -14,11 +15,17 @@ use Rattle.base.proofs.Refusals.{passed}
 use Rattle.header.specs.Header.{headerSize, peersOf, thresholdOf, itemsOf, headerOk}
 use Rattle.header.proofs.TwoThirds.{threshold-rule}
 use Rattle.header.proofs.Ranges.{peers-range, threshold-range, honest-range, periods-range, items-range}
+use Rattle.pairs.specs.Pairs.{textOf}
 use Rattle.pairs.proofs.Texts.{text-within, text-length}
-use Rattle.ballot.specs.Table.{tablePairsOk, itemText, itemOk, itemsOk, differ, newAt, noTwins, tableRefusals, refusal}
+use Rattle.ballot.specs.Table.{tablePairsOk, itemBelow, itemText, itemOk, itemsOk, differ, newAt, noTwins, tableRefusals, refusal}
 use Rattle.ballot.specs.Sound.{Sound}
 
 -- the items
+
+-- below m the text of item k is what its pair marks out
+text-of : (s : List ℕ) (k : ℕ) → k < itemsOf s → itemText s k ≡ textOf s (headerSize s) k
+unfolding itemBelow
+text-of s k l = rw (lt-ltb k (itemsOf s) l)
 
 all-good : (s : List ℕ) → itemsOk s ≡ true → (k : ℕ) → k < itemsOf s → itemOk s k ≡ true
 unfolding itemsOk
@@ -44,7 +51,7 @@ module _ (s : List ℕ) (ok : noTwins s ≡ true) where
 pub sound : (s : List ℕ) → refusal s ≡ 0 → Sound s
 unfolding refusal tablePairsOk
 sound s e =
-    let tests = passed (tableRefusals s) refl e in
+    let tests = passed (tableRefusals s) e in
     let header = not-false (headerOk s) (tests .0) in
     let pairs = not-false (tablePairsOk s) (tests .1 .0) in
     let items = not-false (itemsOk s) (tests .1 .1 .0) in
@@ -62,7 +69,7 @@ sound s e =
       periods-most = periods .1;
       items-most = items-range s header;
       text-within = text-within s (headerSize s) (itemsOf s) pairs;
-      text-length = text-length s (headerSize s) (itemsOf s) pairs;
+      text-length = λ k l. ap length (text-of s k l) ∙ text-length s (headerSize s) (itemsOf s) pairs k l;
       text-good = all-good s items;
       no-twins = same-item s twins;
     }

@@ -39,7 +39,7 @@ bodyAt = 5
 abbrev pub goodIf : Bool → ℕ → Kind → Reading
 goodIf ok b kind = cond ok (Good (record { ballot = b; kind = kind })) Wrong
 
--- the item of a ballot, a kind byte and the number of bytes after it: 1 to 32 preferences of a vote, nothing of the others
+-- the item of a ballot, a kind byte and the number of bytes after it: 1 to 32 preferences of a vote, none of the others
 unfoldable pub readKind : ℕ → ℕ → ℕ → Reading
 readKind b k rest =
     cond (eqb k (kindNumber (Vote rest))) (goodIf (between 1 rest 32) b (Vote rest))
@@ -62,7 +62,7 @@ bodyOk (Vote n) = between 1 n 32
 bodyOk Audit = true
 bodyOk Cancellation = true
 
--- the text is that of the item: it has its ballot number, its kind byte, and as many bytes after it as the item must have
+-- the text is the item's: it has its ballot number, its kind byte, and as many bytes after it as the item must have
 pub record Says (text : List ℕ) (i : Item) : Type 0 where
   pub ballot : ballotOf text ≡ i .ballot
   pub kind : kindByte text ≡ kindNumber (i .kind)

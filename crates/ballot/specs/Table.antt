@@ -1,11 +1,11 @@
 -- The whole ballot table: its pairs, its items, and the first refusal that applies.
 use Prim.Native.Nat.{ℕ}
-use mathlib.Core.Bool.{Bool, not}
+use mathlib.Core.Bool.{Bool, not, cond}
 use mathlib.Core.List.{List, [], _∷_}
-use lib.Dec.{eqb}
+use lib.Dec.{eqb, ltb}
 use Rattle.base.specs.Bytes.{sameBytes}
 use Rattle.base.specs.Below.{every}
-use Rattle.base.specs.Refusals.{Refusals, first}
+use Rattle.base.specs.Refusals.{Refusals, header, pairs, item, twin, numbered, first}
 use Rattle.header.specs.Header.{headerSize, itemsOf, headerOk}
 use Rattle.pairs.specs.Pairs.{textOf, pairsOk}
 use Rattle.ballot.specs.Item.{readItem, readingNumber}
@@ -14,9 +14,13 @@ use Rattle.ballot.specs.Item.{readItem, readingNumber}
 unfoldable pub tablePairsOk : List ℕ → Bool
 tablePairsOk s = pairsOk s (headerSize s) (itemsOf s)
 
--- the text of item k: the part of the table that its pair marks out
+-- the text of item k of the first `items`: the part of the table that its pair marks out; none past them
+unfoldable pub itemBelow : List ℕ → ℕ → ℕ → List ℕ
+itemBelow s items k = cond (ltb k items) (textOf s (headerSize s) k) []
+
+-- the text of item k of the table
 abbrev pub itemText : List ℕ → ℕ → List ℕ
-itemText s k = textOf s (headerSize s) k
+itemText s k = itemBelow s (itemsOf s) k
 
 -- the text of item k reads as an item
 unfoldable pub itemOk : List ℕ → ℕ → Bool
@@ -38,10 +42,15 @@ newAt s j = every j (differ s j)
 unfoldable pub noTwins : List ℕ → Bool
 noTwins s = every (itemsOf s) (newAt s)
 
--- the table's refusals, in the order in which they are judged: 1 header, 2 pairs, 3 item, 4 twin
+-- the table's refusals, in the order in which they are judged
 abbrev pub tableRefusals : List ℕ → Refusals
-tableRefusals s = (1, not (headerOk s)) ∷ (2, not (tablePairsOk s)) ∷ (3, not (itemsOk s)) ∷ (4, not (noTwins s)) ∷ []
+tableRefusals s =
+    (header, not (headerOk s))
+    ∷ (pairs, not (tablePairsOk s))
+    ∷ (item, not (itemsOk s))
+    ∷ (twin, not (noTwins s))
+    ∷ []
 
 -- the first of them that applies, and 0 where none does
 unfoldable pub refusal : List ℕ → ℕ
-refusal s = first (tableRefusals s)
+refusal s = first (numbered (tableRefusals s))

@@ -1,8 +1,8 @@
-// The ballot table: its header, its pairs and its items, read from lent bytes, and the first refusal of 1 to 4 that applies.
+// The ballot table: its header, pairs and items, read from lent bytes, and the first refusal of 1 to 4 that applies.
 // An item's text is handed on as the part of the table that it is; nothing is copied, and no byte is changed.
 // It uses header and pairs to read the table, and base.
 ghost use mathlib.Core.Path.{_≡_};
-ghost use Rattle.ballot.specs.Table.{tablePairsOk, itemText, itemOk, itemsOk, refusal};
+ghost use Rattle.ballot.specs.Table.{tablePairsOk, itemOk, itemsOk, refusal};
 
 pub mod item; // an item, read from its text
 pub mod reader; // a reader that stands over the table's bytes
@@ -15,18 +15,11 @@ fn table_pairs_ok(table: &[u8]) -> bool
     pairs::pairs_ok(table, header::header_size(table), header::items(table))
 }
 
-// The text of item k, as the part of the table that it is.
-pub fn item_text(table: &[u8], k: u8) -> &[u8]
-    ensures { λ r. ⌜ now r ≡ itemText (now (table .entry)) k ⌝ }
-{
-    pairs::text(table, header::header_size(table), k)
-}
-
 // Whether the text of item k reads as an item.
 fn item_ok(table: &[u8], k: u8) -> bool
     ensures { λ r. ⌜ r ≡ itemOk (now (table .entry)) k ⌝ }
 {
-    item::reading_number(item::read_item(item_text(table, k))) == 0
+    item::reading_number(item::read_item(reader::item_at(table, k))) == 0
 }
 
 // Whether every item's text reads as an item.

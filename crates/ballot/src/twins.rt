@@ -34,14 +34,17 @@ fn mark_of(text: &[u8]) -> usize
 fn mark_at(table: &[u8], k: u8) -> usize
     ensures { λ r. ⌜ r ≡ markAt (now (table .entry)) k ⌝ }
 {
-    mark_of(super::item_text(table, k))
+    mark_of(super::reader::item_at(table, k))
 }
 
 // Whether items i and j have different texts.
 fn differs(table: &[u8], j: u8, i: u8) -> bool
     ensures { λ r. ⌜ r ≡ differ (now (table .entry)) j i ⌝ }
 {
-    !base::same(super::item_text(table, i), super::item_text(table, j))
+    !base::same(
+        super::reader::item_at(table, i),
+        super::reader::item_at(table, j),
+    )
 }
 
 // Whether no item before item j has its text: each is compared.

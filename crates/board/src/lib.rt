@@ -1,12 +1,21 @@
 // The engine for C, whose slices are a pointer and a length: `include/board.h` declares these functions.
-// It uses engine and rehearsal, and adds nothing to what they promise.
+// It uses ballot, engine and rehearsal, and adds nothing to what they promise.
 ghost use Prim.Native.Nat.{_≤_};
 ghost use mathlib.Core.Path.{_≡_};
 ghost use lib.ListN.{length};
+ghost use Rattle.ballot.specs.Table.{refusal};
 ghost use Rattle.state.specs.Layout.{size};
 ghost use Rattle.text.specs.Wrote.{over};
 ghost use Rattle.rehearsal.specs.Rehearsal.{reported, stateLeft, reportMost};
 ghost use Rattle.engine.specs.Engine.{stepAnswer, stepBytes, freshAnswer, freshBytes};
+
+// Judges a table; the answer is 0, or the refusal.
+#[no_mangle]
+pub extern "C" fn board_check_table(table: &[u8]) -> u8
+    ensures { λ r. ⌜ r ≡ refusal (now (table .entry)) ⌝ }
+{
+    ballot::check_table(table)
+}
 
 // The length of a state buffer.
 #[no_mangle]

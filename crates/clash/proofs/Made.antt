@@ -1,40 +1,71 @@
--- The loops that make a list of 64 numbers, the ballots of the items and the rows of clashes: none yet, one more, all.
+-- The loops that make a list of 64 numbers, the ballots of the items and the rows of clashes, and what is read of these lists.
 use Prim.Native.Nat.{ℕ, _+_, _<_, _≤_}
-use native.Mathlib.Decide.{ℕ-discrete}
+use native.Mathlib.Decide.{decLt}
 use native.Mathlib.Omega.{arith}
 use mathlib.Core.List.{List}
-use mathlib.Core.Path.{_≡_, _∙_}
-use lib.ListN.{length, getD, set, replicate, length-set, length-replicate}
-use lib.Seq.{getD-set-same, getD-set-other}
-use Rattle.clash.specs.Clash.{maskWidth, ballotAt, BallotsOf, clashMask, RowsOf}
+use mathlib.Core.Path.{_≡_, sym, ap, _∙_}
+use lib.ListN.{length, getD, set, replicate, length-replicate}
+use lib.Seq.{getD-set-other}
+use borrow.Author.Tests.{le-ltb}
+use Rattle.base.specs.Bytes.{numberAt}
+use Rattle.base.specs.Tab.{tab, FilledTo}
+use Rattle.base.proofs.Bytes.{zeros-at}
+use Rattle.base.proofs.Tab.{length-tab, getD-tab, filled-none, filled-more, filled-all}
+use Rattle.header.specs.Header.{itemsOf}
+use Rattle.ballot.specs.Table.{itemBelow}
+use Rattle.clash.specs.Clash.{maskWidth, ballotAt, ballotsOf, clashMask, clashRows, RowsOf}
 
--- of a list of 64 numbers the first i are those of f
-pub record Made (f : ℕ → ℕ) (list : List ℕ) (i : ℕ) : Type 0 where
-  pub long : length list ≡ 64
-  pub below : (k : ℕ) → k < i → getD list k 0 ≡ f k
+-- 64 zeros, none of them filled yet
+pub none-made : (f : ℕ → ℕ) → FilledTo 0 64 f 0 (replicate 64 0)
+none-made f = filled-none 0 64 f (replicate 64 0) (length-replicate {A = ℕ} 64 0)
 
-pub made-none : (f : ℕ → ℕ) → Made f (replicate 64 0) 0
-made-none f = record { long = length-replicate {A = ℕ} 64 0; below = λ k l. absurd (omega arith) }
+-- the rows of clashes
 
-pub made-more : (f : ℕ → ℕ) (list : List ℕ) (i : ℕ) {v : ℕ} → Made f list i → i < 64 → v ≡ f i → Made f (set list i v) (i + 1)
-made-more f list i {v} M l v-is = record { long = length-set list i v ∙ M .long; below = λ k m. go k m (ℕ-discrete k i) }
-  where
-    go : (k : ℕ) → k < i + 1 → Dec (k ≡ i) → getD (set list i v) k 0 ≡ f k
-    go k m (yes e) = rw e (getD-set-same list i v 0 (omega (arith, M .long)) ∙ v-is)
-    go k m (no n) = getD-set-other list i k v 0 n ∙ M .below k (omega (arith, n))
+pub rows-made : (table rows : List ℕ) (i : ℕ) → FilledTo 0 64 (clashMask table) i rows → 64 ≤ i → rows ≡ clashRows table
+unfolding clashRows
+rows-made table rows i M l = filled-all 0 64 (clashMask table) i rows l M
 
--- all rows, and the ballots of all items
-
-pub rows-made : (table rows : List ℕ) (i : ℕ) → Made (clashMask table) rows i → 64 ≤ i → RowsOf table rows
-rows-made table rows i M l = record { row = λ k m. M .below k (omega (arith, M .long)) }
-
-pub ballots-made : (table ballots : List ℕ) (i n : ℕ) → Made (ballotAt table) ballots i → n ≡ maskWidth table → n ≤ i → BallotsOf table ballots
-ballots-made table ballots i n M e l = record { ballot = λ k m. M .below k (omega arith) }
-
--- a ballot and a row, read
-
-pub ballot-read : {table ballots : List ℕ} {k : ℕ} → BallotsOf table ballots → k < maskWidth table → getD ballots k 0 ≡ ballotAt table k
-ballot-read B l = B .ballot _ l
+-- all rows are rows of the table
+pub all-rows : {table rows : List ℕ} → rows ≡ clashRows table → RowsOf table rows
+unfolding clashRows
+all-rows {table} e =
+    let long = ap length e ∙ length-tab 64 (clashMask table) in
+    record { row = λ k l. ap (λ r. getD r k 0) e ∙ getD-tab 64 (clashMask table) k 0 (omega (arith, long)) }
 
 pub row-read : {table rows : List ℕ} {k : ℕ} → RowsOf table rows → k < length rows → getD rows k 0 ≡ clashMask table k
 row-read R l = R .row _ l
+
+-- the ballots of the items: those of the first i, and zeros
+
+pub record BallotsTo (table : List ℕ) (i : ℕ) (ballots : List ℕ) : Type 0 where
+  pub filled : FilledTo 0 64 (ballotAt table) i ballots
+  pub zeros : (k : ℕ) → i ≤ k → getD ballots k 0 ≡ 0
+
+pub no-ballots : (table : List ℕ) → BallotsTo table 0 (replicate 64 0)
+no-ballots table = record { filled = none-made (ballotAt table); zeros = λ k l. zeros-at 64 k }
+
+pub one-ballot : (table ballots : List ℕ) (i : ℕ) {v : ℕ} → BallotsTo table i ballots → i < 64 → v ≡ ballotAt table i
+    → BallotsTo table (i + 1) (set ballots i v)
+one-ballot table ballots i {v} M l v-is =
+    record {
+      filled = filled-more 0 64 (ballotAt table) i ballots v l v-is (M .filled);
+      zeros = λ k m. getD-set-other ballots i k v 0 (λ e. omega arith) ∙ M .zeros k (omega arith);
+    }
+
+-- there is no ballot past the items
+no-item : (table : List ℕ) (k : ℕ) → itemsOf table ≤ k → 0 ≡ ballotAt table k
+unfolding ballotAt itemBelow numberAt
+no-item table k l = rw (le-ltb k (itemsOf table) l)
+
+pub ballots-made : (table ballots : List ℕ) (i n : ℕ) → BallotsTo table i ballots → n ≡ maskWidth table → n ≤ i → ballots ≡ ballotsOf table
+unfolding ballotsOf
+ballots-made table ballots i n M e l =
+    filled-all 0 64 (ballotAt table) 64 ballots (omega arith) (record { long = M .filled .long; each = λ k m. go k m (decLt k i) })
+  where
+    go : (k : ℕ) → k < 64 → Dec (k < i) → getD ballots k 0 ≡ ballotAt table k
+    go k m (yes q) = M .filled .each k q
+    go k m (no q) = M .zeros k (omega (arith, q)) ∙ no-item table k (omega (arith, q))
+
+pub ballot-read : (table : List ℕ) {ballots : List ℕ} {k : ℕ} → ballots ≡ ballotsOf table → k < 64 → getD ballots k 0 ≡ ballotAt table k
+unfolding ballotsOf
+ballot-read table {ballots} {k} e l = ap (λ r. getD r k 0) e ∙ getD-tab 64 (ballotAt table) k 0 l

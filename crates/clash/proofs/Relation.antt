@@ -50,7 +50,9 @@ clash-self a = rw (same-self a)
 -- items of two ballots do not clash
 pub clash-other : (s : List ℕ) (i j : ℕ) {x y : ℕ} → x ≡ ballotAt s i → y ≡ ballotAt s j → (y ≡ x → ⊥) → false ≡ clashIn s i j
 unfolding clashIn clash ballotAt
-clash-other s i j x-is y-is other = rw (go (readItem (itemText s i)) (readItem (itemText s j)) refl refl) (sym (and-false (not (sameBytes (itemText s i) (itemText s j)))))
+clash-other s i j x-is y-is other =
+    rw (go (readItem (itemText s i)) (readItem (itemText s j)) refl refl)
+    (sym (and-false (not (sameBytes (itemText s i) (itemText s j)))))
   where
     go : (v w : Reading) → readItem (itemText s i) ≡ v → readItem (itemText s j) ≡ w → readingsClash v w ≡ false
     go Wrong w p q = refl

@@ -1,4 +1,4 @@
--- Clash, which is document 01's word for two different items of one ballot, neither a cancellation, at least one a vote.
+-- Clash is document 01's word for two different items of one ballot, neither a cancellation, at least one a vote.
 use Prim.Native.Nat.{ℕ, _<_, min}
 use mathlib.Core.Bool.{Bool, true, false, not, _&&_, _||_}
 use mathlib.Core.List.{List}
@@ -7,6 +7,7 @@ use lib.Dec.{eqb}
 use lib.ListN.{length, getD}
 use Rattle.base.specs.Bytes.{sameBytes}
 use Rattle.base.specs.Bits.{pack}
+use Rattle.base.specs.Tab.{tab}
 use Rattle.ballot.specs.declared.item.Kind.{Kind}
 use Rattle.ballot.specs.declared.item.Kind.the-variants.{Vote, Audit, Cancellation}
 use Rattle.ballot.specs.declared.item.Item.{Item}
@@ -58,14 +59,18 @@ maskWidth s = min (itemsOf s) 64
 unfoldable pub clashMask : List ℕ → ℕ → ℕ
 clashMask s i = pack (maskWidth s) (clashIn s i)
 
--- the ballot number of item k
+-- the ballot number of item k; 0 where the table has no such item
 unfoldable pub ballotAt : List ℕ → ℕ → ℕ
 ballotAt s k = ballotOf (itemText s k)
 
--- the ballot numbers of a table's items
-pub record BallotsOf (table ballots : List ℕ) : Type 0 where
-  pub ballot : (k : ℕ) → k < maskWidth table → getD ballots k 0 ≡ ballotAt table k
+-- the ballot numbers of items 0 to 63
+unfoldable pub ballotsOf : List ℕ → List ℕ
+ballotsOf s = tab 64 (ballotAt s)
 
--- the first rows of clashes of a table: row k is the mask of item k
+-- the rows of clashes of items 0 to 63: row k is the mask of item k
+unfoldable pub clashRows : List ℕ → List ℕ
+clashRows s = tab 64 (clashMask s)
+
+-- rows that are the table's, as many as there are: all 64 of them, or none where they were not made
 pub record RowsOf (table rows : List ℕ) : Type 0 where
   pub row : (k : ℕ) → k < length rows → getD rows k 0 ≡ clashMask table k

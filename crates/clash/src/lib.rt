@@ -1,4 +1,4 @@
-// When two items clash: by their kinds, by their texts and by their numbers; and the rows of clashes, made once for a table.
+// When two items clash: by their kinds, their texts and their numbers; and the rows of clashes, made once for a table.
 // It uses ballot to read items, header for their number, and base.
 ghost use mathlib.Core.Path.{_≡_};
 ghost use Rattle.clash.specs.Clash.{isVote, isCancellation, kindsClash, itemsClash, readingsClash};
@@ -86,5 +86,8 @@ pub fn clashes(a: &[u8], b: &[u8]) -> bool
 pub fn clash_in(table: &[u8], i: u8, j: u8) -> bool
     ensures { λ r. ⌜ r ≡ clashIn (now (table .entry)) i j ⌝ }
 {
-    clashes(ballot::item_text(table, i), ballot::item_text(table, j))
+    clashes(
+        ballot::reader::item_at(table, i),
+        ballot::reader::item_at(table, j),
+    )
 }

@@ -1,7 +1,7 @@
 // What clashes with an item, as a mask: a number in which bit j is item j. A row of clashes is the mask of one item.
 ghost use mathlib.Core.Path.{_≡_};
 ghost use Prim.Native.Nat.{_<_, _^_};
-ghost use Rattle.clash.specs.Clash.{clashIn, maskWidth, ballotAt, BallotsOf, clashMask, RowsOf};
+ghost use Rattle.clash.specs.Clash.{clashIn, maskWidth, ballotAt, ballotsOf, clashMask, clashRows, RowsOf};
 
 // The number of items that a mask has a bit for.
 fn mask_width(table: &[u8]) -> u8
@@ -26,12 +26,12 @@ fn worth(j: u8) -> u64
 fn ballot_at(table: &[u8], k: u8) -> u32
     ensures { λ r. ⌜ r ≡ ballotAt (now (table .entry)) k ⌝ }
 {
-    ballot::item::ballot(ballot::item_text(table, k))
+    ballot::item::ballot(ballot::reader::item_at(table, k))
 }
 
-// The ballot numbers of the items that a mask has a bit for.
+// The ballot numbers of items 0 to 63; 0 past the items that there are.
 fn ballots_of(table: &[u8]) -> [u32; 64]
-    ensures { λ r. ⌜ BallotsOf (now (table .entry)) r ⌝ }
+    ensures { λ r. ⌜ r ≡ ballotsOf (now (table .entry)) ⌝ }
 {
     let width = mask_width(table);
     let mut ballots = [0; 64];
@@ -45,7 +45,7 @@ fn ballots_of(table: &[u8]) -> [u32; 64]
 
 // Whether items i and k clash, where item i has this ballot number. No text of another ballot is read.
 fn clashes_at(table: &[u8], ballots: &[u32; 64], ballot: u32, i: u8, k: u8) -> bool
-    requires { ⌜ BallotsOf (now table) (now ballots) × (ballot ≡ ballotAt (now table) i) × (k < maskWidth (now table)) ⌝ }
+    requires { ⌜ (now ballots ≡ ballotsOf (now table)) × (ballot ≡ ballotAt (now table) i) × (k < 64) ⌝ }
     ensures { λ r. ⌜ r ≡ clashIn (now (table .entry)) i k ⌝ }
 {
     if ballots[k as usize] != ballot {
@@ -56,7 +56,7 @@ fn clashes_at(table: &[u8], ballots: &[u32; 64], ballot: u32, i: u8, k: u8) -> b
 
 // The items that clash with item i, by the ballot numbers of all: bit j is item j.
 fn mask_by(table: &[u8], ballots: &[u32; 64], i: u8) -> u64
-    requires { ⌜ BallotsOf (now table) (now ballots) ⌝ }
+    requires { ⌜ now ballots ≡ ballotsOf (now table) ⌝ }
     ensures { λ r. ⌜ r ≡ clashMask (now (table .entry)) i ⌝ }
 {
     let ballot = ballot_at(table, i);
@@ -83,7 +83,7 @@ pub fn clash_mask(table: &[u8], i: u8) -> u64
 
 // The row of every item number below 64: what clashes with it.
 pub fn clash_rows(table: &[u8]) -> [u64; 64]
-    ensures { λ r. ⌜ RowsOf (now (table .entry)) r ⌝ }
+    ensures { λ r. ⌜ r ≡ clashRows (now (table .entry)) ⌝ }
 {
     let ballots = ballots_of(table);
     let mut rows = [0; 64];

@@ -4,7 +4,7 @@ use native.Mathlib.Omega.{arith}
 use native.Mathlib.Decide.{decLe}
 use mathlib.Core.Bool.{Bool, true, false, _&&_, not}
 use mathlib.Core.List.{List, [], _∷_}
-use mathlib.Core.Path.{_≡_, refl, ap, fun-ext}
+use mathlib.Core.Path.{_≡_, refl, sym, ap, fun-ext, _∙_}
 use mathlib.Core.Logic.{_⊎_, inl, inr}
 use lib.ListN.{length, List·getD-eq-default}
 use borrow.Author.Tests.{ne-eqb, lt-ltb, le-ltb, le-leb, lt-leb, not-true}
@@ -15,12 +15,15 @@ use Rattle.base.proofs.Below.{any-found}
 use Rattle.base.proofs.Truth.{split, is-false, either, and-l, and-r, and-false}
 use Rattle.rules.specs.declared.Entry.{Entry}
 use Rattle.rules.specs.declared.Step.{Step}
-use Rattle.rules.specs.declared.Step.the-variants.{Post, Hand, Sign, Take, Share, Receipt, Close, Fetch, SendHash, Hear, Back, Publish, FalseSignature, FalseShare, FalseHash, FalseBacking, Down, Up}
+use Rattle.rules.specs.declared.Step.the-variants.{Take, Share, Receipt, Fetch, Back, Publish}
 use Rattle.rules.specs.Table.{Table, weigh}
 use Rattle.rules.specs.Bag.{isIn, isHash, entryAt, noEntry, capacity, isFull}
 use Rattle.rules.specs.State.{State}
-use Rattle.rules.specs.Rules.{rule, answer, next, full}
+use Rattle.rules.specs.Rules.{rule, answer, next}
 use Rattle.rules.specs.Valid.{Peer}
+use Rattle.rules.specs.Fields.{Fields, fields}
+use Rattle.rules.specs.ByRow.{byRow}
+use Rattle.rules.proofs.ByRow.{by-row}
 use Rattle.edges.specs.Exact.{AllPosted, NeedsUp, hand, sign, take, share, close, fetch, fetch-other, hash, hear, back, Counts, signers, sharers, heard-signers, backed, Enters, own-hash, own-backing, board, false-hash, false-backing, ExactEdges}
 use Rattle.edges.proofs.Stored.{stored, closes, backs}
 use Rattle.edges.proofs.Keys.{shares-unseen}
@@ -30,6 +33,10 @@ use Rattle.edges.proofs.Tests.{row, Without, never}
 -- past the end of the bag there is no hash
 no-hash : (bag : List Entry) (e : ℕ) → length bag ≤ e → isHash (entryAt bag e) ≡ false
 no-hash bag e h = ap isHash (List·getD-eq-default bag noEntry h)
+
+-- a test of the table that is for other ops, or does not hold
+fails : (op b : Bool) → b ≡ false → op && b ≡ false
+fails op b e = rw e (and-false op)
 
 -- the test of 13
 
@@ -63,26 +70,9 @@ module _ (T : Table) (s : State) where
   down j _ (hear _ e) p h d = search row depth 6
   down j _ (back _) p h d = search row depth 6
 
-  none-down : ((j : ℕ) → s .down j ≡ false) → (st : Step) → Without 8 (rule T s st .refusals)
-  unfolding rule
-  none-down up (Post x) = tt
-  none-down up (Hand j x) = search
-  none-down up (Sign j x) = search
-  none-down up (Take j k p x) = search
-  none-down up (Share j x) = search
-  none-down up (Receipt p x) = tt
-  none-down up (Close j) = search
-  none-down up (Fetch j k p) = search
-  none-down up (SendHash j p) = search
-  none-down up (Hear j e) = search
-  none-down up (Back j) = search
-  none-down up (Publish e) = tt
-  none-down up (FalseSignature j p x) = tt
-  none-down up (FalseShare j p x) = tt
-  none-down up (FalseHash j p B) = tt
-  none-down up (FalseBacking j p B) = tt
-  none-down up (Down j) = tt
-  none-down up (Up j) = tt
+  none-down : ((j : ℕ) → s .down j ≡ false) → (f : Fields) → Without 8 (byRow T s f)
+  unfolding byRow
+  none-down up f = search fails
 
   short : (st : Step) (S : ℕ → Bool) → Counts T s st S → weigh T S < T .t → answer T s st ≡ 12
   unfolding answer rule
@@ -106,7 +96,7 @@ module _ (T : Table) (s : State) where
       none (x, l, e) = split (h x l (and-l _ (not (s .posted x)) e)) (not-true _ (and-r (bit B x) _ e))
 
   -- a step that enters an entry has passed all tests but that of 13
-  entering : (st : Step) (a : Entry) → Enters T s st a → (v : ℕ) → first (full (isFull a (s .bag)) ∷ []) ≡ v → answer T s st ≡ v
+  entering : (st : Step) (a : Entry) → Enters T s st a → (v : ℕ) → first ((13, isFull a (s .bag)) ∷ []) ≡ v → answer T s st ≡ v
   unfolding answer rule
   entering _ _ (own-hash j p a b c) v e = search row depth 8
   entering _ _ (own-backing j a b c) v e = search row depth 8
@@ -114,31 +104,17 @@ module _ (T : Table) (s : State) where
   entering _ _ (false-hash j p B a b c d) v e = search (row, posted-all) depth 9
   entering _ _ (false-backing j p B a b c d) v e = search (row, posted-all) depth 9
 
-  with-room : length (s .bag) < capacity → (st : Step) → Without 13 (rule T s st .refusals)
-  unfolding rule
-  with-room r (Post x) = tt
-  with-room r (Hand j x) = tt
-  with-room r (Sign j x) = tt
-  with-room r (Take j k p x) = tt
-  with-room r (Share j x) = tt
-  with-room r (Receipt p x) = tt
-  with-room r (Close j) = tt
-  with-room r (Fetch j k p) = tt
-  with-room r (SendHash j p) = search room-not-full
-  with-room r (Hear j e) = tt
-  with-room r (Back j) = search room-not-full
-  with-room r (Publish e) = search room-not-full
-  with-room r (FalseSignature j p x) = tt
-  with-room r (FalseShare j p x) = tt
-  with-room r (FalseHash j p B) = search room-not-full
-  with-room r (FalseBacking j p B) = search room-not-full
-  with-room r (Down j) = tt
-  with-room r (Up j) = tt
+  with-room : length (s .bag) < capacity → (f : Fields) → Without 13 (byRow T s f)
+  unfolding byRow
+  with-room r f = search (fails, room-not-full)
+
+  -- a number that no row of document 01's table gives is not the answer
+  not-given : (n : ℕ) (st : Step) → (n ≡ 0 → ⊥) → Without n (byRow T s (fields st)) → answer T s st ≡ n → ⊥
+  not-given n st z w e = never n (byRow T s (fields st)) z w (sym (by-row T s st) ∙ e)
 
   not-with-room : Dec (capacity ≤ length (s .bag)) → (st : Step) → answer T s st ≡ 13 → capacity ≤ length (s .bag)
-  unfolding answer
   not-with-room (yes h) st e = h
-  not-with-room (no h) st e = absurd (never 13 (rule T s st .refusals) (λ z. omega arith) (with-room (omega arith) st) e)
+  not-with-room (no h) st e = absurd (not-given 13 st (λ z. omega arith) (with-room (omega arith) (fields st)) e)
 
   pub exact-edges : ExactEdges T s
   unfolding answer rule next
@@ -150,7 +126,7 @@ module _ (T : Table) (s : State) where
     current-kept = λ j st. left T s st .current j;
     toBack-kept = λ j st. left T s st .toBack j;
     down = down;
-    all-up = λ st up e. never 8 (rule T s st .refusals) (λ z. omega arith) (none-down up st) e;
+    all-up = λ st up e. not-given 8 st (λ z. omega arith) (none-down up (fields st)) e;
     take-beyond = λ j k p x a b c d. search (row, lt-ltb) depth 9;
     take-within = λ j k p x h e. never 9 (rule T s (Take j k p x) .refusals) (λ z. omega arith) (search le-ltb) e;
     hear-absent = λ j e a l. let none = no-hash (s .bag) e l in search row depth 6;

@@ -35,7 +35,8 @@ module _ (T : Table) (j p x : ℕ) (sy : (y : ℕ) → T .clash x y ≡ T .clash
     is-posted = I .is-posted;
     is-held = old3 k (s .current k) y (s .held) j p x (I .is-held);
     apart = λ q z l m h. grow-row {P = λ q z. q < T .periods → z < T .items → T .clash x z ≡ false} k (s .current k) y (s .held) j
-        (λ e l m. sy y ∙ test-apart T (s .held k) y (search) p x in-P in-m (subst (λ (i : ℕ). s .held i p x ≡ true) e (I .is-held))) (λ q z h l m. I .apart q z l m h) q z h l m;
+        (λ e l m. sy y ∙ test-apart T (s .held k) y (search) p x in-P in-m (subst (λ (i : ℕ). s .held i p x ≡ true) e (I .is-held)))
+        (λ q z h l m. I .apart q z l m h) q z h l m;
   }
 
   step-settled : (s : State) → Now s → (st : Step) → Clear T s st → Now (rule T s st .effect)
@@ -91,7 +92,8 @@ module _ (T : Table) (s : State) (j x : ℕ) (ir : T .clash x x ≡ false) (take
       }
 
   -- where x is settled for a peer that is up and in the period, a hand answers 0 and changes nothing
-  again : (u : State) → Settled T j (s .current j) x (u .posted) (u .held) → u .down j ≡ false → u .current j ≡ s .current j → (answer T u (Hand j x) ≡ 0) × (next T u (Hand j x) ≡ u)
+  again : (u : State) → Settled T j (s .current j) x (u .posted) (u .held) → u .down j ≡ false → u .current j ≡ s .current j
+      → (answer T u (Hand j x) ≡ 0) × (next T u (Hand j x) ≡ u)
   unfolding rule
   again u I d p =
       let c = clear in
@@ -109,4 +111,5 @@ module _ (T : Table) (s : State) (j x : ℕ) (ir : T .clash x x ≡ false) (take
   unfolding rule
   second-hand-later sy between d p =
       let c = clear in
-      again (after T (next T s (Hand j x)) between) (after-settled T j (s .current j) x sy (search judged) (search judged) (next T s (Hand j x)) (rw done settled) between) d p
+      again (after T (next T s (Hand j x)) between)
+      (after-settled T j (s .current j) x sy (search judged) (search judged) (next T s (Hand j x)) (rw done settled) between) d p

@@ -1,4 +1,5 @@
--- What a step leaves as it was: the receipt shares, but for share and false share, and each counter of each peer, but for its close or back.
+-- What a step leaves as it was: the receipt shares, but for share and false share, and each counter of each peer, but
+-- for its close or back.
 use Prim.Native.Nat.{ℕ}
 use mathlib.Core.Bool.{Bool, true, false, cond}
 use mathlib.Core.Path.{_≡_, refl}

@@ -9,6 +9,4 @@ pub mod Stored
 pub mod Keys
 pub mod Left
 pub mod Exact
-pub mod Fields
-pub mod ByRow
 pub mod Edges

@@ -75,6 +75,7 @@ module _ (T : Table) (s : State) where
   unfolding rule
   closes j taken = rw (done (Close j) taken) (at-set j (s .current j + 1) (s .current))
 
-  pub backs : (j : ℕ) → answer T s (Back j) ≡ 0 → let u = next T s (Back j) in (u .toBack j ≡ s .toBack j + 1) × (isIn (Backing j (s .toBack j) (ownBoard T s j)) (u .bag) ≡ true)
+  pub backs : (j : ℕ) → answer T s (Back j) ≡ 0
+      → let u = next T s (Back j) in (u .toBack j ≡ s .toBack j + 1) × (isIn (Backing j (s .toBack j) (ownBoard T s j)) (u .bag) ≡ true)
   unfolding rule
   backs j taken = rw (done (Back j) taken) (at-set j (s .toBack j + 1) (s .toBack), entered _ (s .bag))

@@ -5,16 +5,16 @@ use Rattle.base.specs.Below.{every}
 use Rattle.base.specs.Bits.{bit, member, pack}
 use Rattle.base.specs.Weight.{weight}
 use Rattle.base.specs.Bytes.{numberAt, part, sameBytes}
-use Rattle.header.specs.Header.{leastThreshold, thresholdOk, fieldsOk, headerOk}
+use Rattle.header.specs.Header.{headerSize, fieldOf, leastThreshold, thresholdOk, fieldsOk, headerOk}
 use Rattle.pairs.specs.Pairs.{endBefore, startsAtEnd, pairsFit, pairsOk}
 use Rattle.ballot.specs.Item.{readKind, readItem}
-use Rattle.ballot.specs.Table.{tablePairsOk, itemOk, itemsOk, differ, newAt, noTwins, refusal}
+use Rattle.ballot.specs.Table.{tablePairsOk, itemBelow, itemOk, itemsOk, differ, newAt, noTwins, refusal}
 use Rattle.clash.specs.Clash.{clash, clashIn, clashMask}
 use Rattle.edges.specs.Marked.{TableEdges, TableCases}
 
 pub table-edges : TableEdges
-unfolding refusal headerOk fieldsOk thresholdOk leastThreshold tablePairsOk pairsOk pairsFit startsAtEnd endBefore
-    itemsOk itemOk noTwins newAt differ clash readItem readKind first every numberAt part sameBytes
+unfolding refusal headerOk headerSize fieldOf fieldsOk thresholdOk leastThreshold tablePairsOk pairsOk pairsFit startsAtEnd endBefore
+    itemBelow itemsOk itemOk noTwins newAt differ clash readItem readKind first every numberAt part sameBytes
 table-edges =
     record {
       three-peers-threshold-2 = refl;
@@ -32,8 +32,8 @@ table-edges =
     }
 
 pub table-cases : TableCases
-unfolding refusal headerOk fieldsOk thresholdOk leastThreshold tablePairsOk pairsOk pairsFit startsAtEnd endBefore
-    itemsOk itemOk noTwins newAt differ clashMask clashIn clash readItem readKind first every numberAt part sameBytes bit member pack weight
+unfolding refusal headerOk headerSize fieldOf fieldsOk thresholdOk leastThreshold tablePairsOk pairsOk pairsFit startsAtEnd endBefore
+    itemBelow itemsOk itemOk noTwins newAt differ clashMask clashIn clash readItem readKind first every numberAt part sameBytes bit member pack weight
 table-cases =
     record {
       no-bytes = refl;

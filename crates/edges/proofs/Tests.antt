@@ -7,7 +7,7 @@ use mathlib.Core.Path.{_≡_, refl, sym}
 use mathlib.Core.Logic.{_⊎_, inl, inr}
 use lib.Dec.{eqb, ltb, leb}
 use borrow.Author.Tests.{ne-eqb, eq-eqb, le-ltb, lt-ltb, lt-leb, le-leb}
-use Rattle.base.specs.Refusals.{Refusals, first}
+use Rattle.base.specs.Refusals.{Refusals, numberOf, Row, numbered, first}
 use Rattle.base.proofs.Truth.{split, either}
 use Rattle.rules.specs.Table.{Table}
 use Rattle.rules.specs.Rules.{noPeer}
@@ -15,11 +15,11 @@ use Rattle.rules.specs.Valid.{Peer}
 
 -- a test that holds gives its number, one that does not is passed, and the end gives 0
 
-pub holds : (n : ℕ) {b : Bool} (rest : Refusals) → b ≡ true → first ((n, b) ∷ rest) ≡ n
+pub holds : (n : ℕ) {b : Bool} (rest : Row) → b ≡ true → first ((n, b) ∷ rest) ≡ n
 unfolding first
 holds n rest e = rw e
 
-pub passes : (n : ℕ) {b : Bool} (rest : Refusals) (v : ℕ) → b ≡ false → first rest ≡ v → first ((n, b) ∷ rest) ≡ v
+pub passes : (n : ℕ) {b : Bool} (rest : Row) (v : ℕ) → b ≡ false → first rest ≡ v → first ((n, b) ∷ rest) ≡ v
 unfolding first
 passes n rest v e f = rw e f
 
@@ -59,16 +59,17 @@ pub ruleset row = (passed-by, ends, holds, is-not, not-below, too-few)
 -- no test with the number n holds
 abbrev pub Without : ℕ → Refusals → Type 0
 Without n [] = Unit {0}
-Without n (r ∷ rest) = cond (eqb (r .0) n) ((r .1 ≡ false) × Without n rest) (Without n rest)
+Without n (r ∷ rest) = cond (eqb (numberOf (r .0)) n) ((r .1 ≡ false) × Without n rest) (Without n rest)
 
 -- so the row does not give n
-pub never : (n : ℕ) (l : Refusals) → (n ≡ 0 → ⊥) → Without n l → first l ≡ n → ⊥
+pub never : (n : ℕ) (l : Refusals) → (n ≡ 0 → ⊥) → Without n l → first (numbered l) ≡ n → ⊥
 unfolding first
 never n [] z w e = z (sym e)
-never n (r ∷ rest) z w e = go (either (eqb (r .0) n)) (either (r .1)) (never n rest z)
+never n (r ∷ rest) z w e = go (either (eqb (numberOf (r .0)) n)) (either (r .1)) (never n rest z)
   where
-    go : (eqb (r .0) n ≡ true) ⊎ (eqb (r .0) n ≡ false) → (r .1 ≡ true) ⊎ (r .1 ≡ false) → (Without n rest → first rest ≡ n → ⊥) → ⊥
+    go : (eqb (numberOf (r .0)) n ≡ true) ⊎ (eqb (numberOf (r .0)) n ≡ false) → (r .1 ≡ true) ⊎ (r .1 ≡ false)
+        → (Without n rest → first (numbered rest) ≡ n → ⊥) → ⊥
     go (inl q) (inl t) next = split t ((rw q at w) .0)
     go (inl q) (inr f) next = next ((rw q at w) .1) (rw f at e)
-    go (inr q) (inl t) next = split (eq-eqb (r .0) n (rw t at e)) q
+    go (inr q) (inl t) next = split (eq-eqb (numberOf (r .0)) n (rw t at e)) q
     go (inr q) (inr f) next = next (rw q at w) (rw f at e)

@@ -1,4 +1,5 @@
--- The inputs of the worked runs: tables, and calls with the answers that they must get. Each is a case of the folder cases, named in brackets.
+-- The inputs of the worked runs: tables, and calls with the answers that they must get. Each is a case of the folder
+-- cases, named in brackets.
 use Prim.Native.Nat.{ℕ}
 use mathlib.Core.Bool.{not}
 use mathlib.Core.List.{List, [], _∷_}
@@ -8,7 +9,15 @@ use Rattle.rules.specs.Table.{Table}
 
 -- n peers of which the first h are honest, with threshold t, P periods, and m items of which any two clash
 abbrev pub table : ℕ → ℕ → ℕ → ℕ → ℕ → Table
-table n t h P m = record { n = n; t = t; honest = λ k. leb k h; weightOf = ones; periods = P; items = m; clash = λ x y. not (eqb x y) }
+table n t h P m = record {
+  n = n;
+  t = t;
+  honest = λ k. leb k h;
+  weightOf = ones;
+  periods = P;
+  items = m;
+  clash = λ x y. not (eqb x y);
+}
 
 -- the thirteen bytes of a call: op, peer, other, period, item (also entry number), and a board of items below 8
 abbrev pub bytes : ℕ → ℕ → ℕ → ℕ → ℕ → ℕ → List ℕ

@@ -17,10 +17,15 @@ pub record EveryTable : Type 0 where
   -- a threshold of two thirds of the peers, or of fewer, is refused with 1, whatever else the table says
   pub two-thirds : (table : List ℕ) → 3 * thresholdOf table ≤ 2 * peersOf table → refusal table ≡ 1
   -- a vote is taken exactly if it has 6 to 37 bytes, an audit and a cancellation if they have 5
-  pub votes : (text : List ℕ) (n : ℕ) → kindByte text ≡ kindNumber (Vote n) → readingNumber (readItem text) ≡ cond (between 6 (length text) 37) 0 3
-  pub audits : (text : List ℕ) → kindByte text ≡ kindNumber Audit → readingNumber (readItem text) ≡ cond (eqb (length text) 5) 0 3
-  pub cancellations : (text : List ℕ) → kindByte text ≡ kindNumber Cancellation → readingNumber (readItem text) ≡ cond (eqb (length text) 5) 0 3
-  -- of two items of one ballot, a vote clashes with any that is no cancellation, whichever stands first; a cancellation with none; nor two audits
-  pub votes-clash : (a b : Item) (n : ℕ) → a .ballot ≡ b .ballot → a .kind ≡ Vote n → (b .kind ≡ Cancellation → ⊥) → (itemsClash a b ≡ true) × (itemsClash b a ≡ true)
+  pub votes : (text : List ℕ) (n : ℕ) → kindByte text ≡ kindNumber (Vote n)
+      → readingNumber (readItem text) ≡ cond (between 6 (length text) 37) 0 3
+  pub audits : (text : List ℕ) → kindByte text ≡ kindNumber Audit
+      → readingNumber (readItem text) ≡ cond (eqb (length text) 5) 0 3
+  pub cancellations : (text : List ℕ) → kindByte text ≡ kindNumber Cancellation
+      → readingNumber (readItem text) ≡ cond (eqb (length text) 5) 0 3
+  -- of two items of one ballot, a vote clashes with any that is no cancellation, whichever stands first; a
+  -- cancellation with none; nor two audits
+  pub votes-clash : (a b : Item) (n : ℕ) → a .ballot ≡ b .ballot → a .kind ≡ Vote n → (b .kind ≡ Cancellation → ⊥)
+      → (itemsClash a b ≡ true) × (itemsClash b a ≡ true)
   pub cancellations-do-not : (a b : Item) → a .kind ≡ Cancellation → (itemsClash a b ≡ false) × (itemsClash b a ≡ false)
   pub audits-do-not : (a b : Item) → a .kind ≡ Audit → b .kind ≡ Audit → itemsClash a b ≡ false

@@ -6,6 +6,4 @@ pub mod Worked
 pub mod Premise
 pub mod Steps
 pub mod Exact
-pub mod Fields
-pub mod ByRow
 pub mod Edges

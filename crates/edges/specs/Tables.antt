@@ -1,5 +1,5 @@
 -- Small ballot tables, of which the cases are made.
-use Prim.Native.Nat.{ℕ}
+use Prim.Native.Nat.{ℕ, _-_, _/_, _%_, _^_}
 use mathlib.Core.List.{List, [], _∷_, _++_}
 use lib.ListN.{length}
 
@@ -33,6 +33,13 @@ abbrev pub three : List ℕ
 three =
     1 ∷ 1 ∷ 0 ∷ 0 ∷ 1 ∷ 3 ∷ 0 ∷ 18 ∷ 0 ∷ 6 ∷ 0 ∷ 24 ∷ 0 ∷ 5 ∷ 0 ∷ 29 ∷ 0 ∷ 5 ∷
     (vote (0 ∷ []) ++ (audit ++ cancellation))
+
+-- n peers with threshold t, of which the first h are honest, one period, and two votes of ballot 7, which clash
+abbrev pub twoVotes : ℕ → ℕ → ℕ → List ℕ
+twoVotes n t h =
+    let honest = 2 ^ h - 1 in
+    n ∷ t ∷ honest / 256 ∷ honest % 256 ∷ 1 ∷ 2 ∷ 0 ∷ 14 ∷ 0 ∷ 6 ∷ 0 ∷ 20 ∷ 0 ∷ 6 ∷
+    (vote (0 ∷ []) ++ vote (1 ∷ []))
 
 -- the table of case R
 abbrev pub caseR : List ℕ

@@ -6,18 +6,10 @@ use mathlib.Core.Path.{_≡_}
 use lib.Dec.{eqb}
 use Rattle.rules.specs.Table.{Table, weigh}
 use Rattle.rules.specs.Bag.{boardsIn}
-use Rattle.rules.specs.State.{State, fresh}
-use Rattle.rules.specs.Form.{read}
-use Rattle.rules.specs.Rules.{reply, leave}
 use Rattle.rules.specs.Ideal.{ideal}
-use Rattle.rules.specs.Run.{run}
+use Rattle.rules.specs.Run.{Engine, after, answersFrom, byRules, run}
 use Rattle.rules.specs.Demand3.{Premise, Safe}
 use Rattle.edges.specs.Cases.{Worked, calls, due, tableR, caseR, tableTwoFaced, twoFaced, tableLeft, leftPeriod, tableLiars, twoLiars, tableOdd, oddBytes}
-
--- the answers to calls
-abbrev pub answers : Table → State → List (List ℕ) → List ℕ
-answers T s [] = []
-answers T s (c ∷ later) = reply T s (read c) ∷ answers T (leave T s (read c)) later
 
 -- what f lists for each number below n, in order
 abbrev pub each : {A : Type 0} → ℕ → (ℕ → List A) → List A
@@ -33,35 +25,47 @@ abbrev pub signersIn : Table → (ℕ → ℕ → ℕ → ℕ → Bool) → List
 signersIn T db = each (T .n) (λ i. each (T .periods) (λ p. each (T .items) (λ x.
     let v = weigh T (db (i + 1) p x) in cond (eqb v 0) [] ((i + 1, p, x, v) ∷ []))))
 
--- how a run ends by the rules: every call has its answer, and the databases, receipts and boards (period, number) are what a report lists
-pub record Ends (T : Table) (w : Worked) (signers : List (ℕ × ℕ × ℕ × ℕ)) (receipts boards : List (ℕ × ℕ)) : Type 0 where
-  pub answered : answers T fresh (calls w) ≡ due w
-  pub signed : signersIn T (run T (calls w) .engine .db) ≡ signers
-  pub receipted : receiptsIn T (run T (calls w) .engine .receipted) ≡ receipts
-  pub published : boardsIn (run T (calls w) .engine .bag) ≡ boards
+-- how a run of an engine ends: every call has its answer, and the databases, receipts and boards (period, number) are
+-- what a report lists
+pub record Ends (T : Table) {X : Type 0} (E : Engine X) (w : Worked) (signers : List (ℕ × ℕ × ℕ × ℕ))
+    (receipts boards : List (ℕ × ℕ)) : Type 0 where
+  pub answered : answersFrom E (E .starts) (calls w) ≡ due w
+  pub signed : signersIn T (after E (calls w) .engine .db) ≡ signers
+  pub receipted : receiptsIn T (after E (calls w) .engine .receipted) ≡ receipts
+  pub published : boardsIn (after E (calls w) .engine .bag) ≡ boards
 
 -- what the ideal board, fed with the run, has at its end
-pub record Ideally (T : Table) (w : Worked) (receipts boards : List (ℕ × ℕ)) (ok : Bool) : Type 0 where
-  pub receipted : receiptsIn T (ideal T (run T (calls w) .seen) .receipts) ≡ receipts
-  pub published : ideal T (run T (calls w) .seen) .boards ≡ boards
-  pub allowed : ideal T (run T (calls w) .seen) .allowed ≡ ok
+pub record Ideally (T : Table) {X : Type 0} (E : Engine X) (w : Worked)
+    (receipts boards : List (ℕ × ℕ)) (ok : Bool) : Type 0 where
+  pub receipted : receiptsIn T (ideal T (after E (calls w) .seen) .receipts) ≡ receipts
+  pub published : ideal T (after E (calls w) .seen) .boards ≡ boards
+  pub allowed : ideal T (after E (calls w) .seen) .allowed ≡ ok
+
+-- the same of the rules themselves
+abbrev pub RulesEnd : Table → Worked → List (ℕ × ℕ × ℕ × ℕ) → List (ℕ × ℕ) → List (ℕ × ℕ) → Type 0
+RulesEnd T = Ends T (byRules T)
+
+abbrev pub RulesIdeally : Table → Worked → List (ℕ × ℕ) → List (ℕ × ℕ) → Bool → Type 0
+RulesIdeally T = Ideally T (byRules T)
 
 pub record WorkedRuns : Type 0 where
   -- case R has document 01's output
-  pub case-r : Ends tableR caseR ((1, 0, 0, 1) ∷ []) ((0, 0) ∷ []) ((0, 1) ∷ [])
-  pub case-r-ideal : Ideally tableR caseR ((0, 0) ∷ []) ((0, 1) ∷ []) true
+  pub case-r : RulesEnd tableR caseR ((1, 0, 0, 1) ∷ []) ((0, 0) ∷ []) ((0, 1) ∷ [])
+  pub case-r-ideal : RulesIdeally tableR caseR ((0, 0) ∷ []) ((0, 1) ∷ []) true
   pub case-r-premise : Premise tableR
   -- with a two-faced peer, one of the clashing votes is receipted and published
-  pub two-faced : Ends tableTwoFaced twoFaced ((1, 0, 0, 3) ∷ (2, 0, 0, 3) ∷ (3, 0, 0, 3) ∷ (3, 0, 1, 2) ∷ []) ((0, 0) ∷ []) ((0, 1) ∷ [])
-  pub two-faced-ideal : Ideally tableTwoFaced twoFaced ((0, 0) ∷ []) ((0, 1) ∷ []) true
+  pub two-faced : RulesEnd tableTwoFaced twoFaced ((1, 0, 0, 3) ∷ (2, 0, 0, 3) ∷ (3, 0, 0, 3) ∷ (3, 0, 1, 2) ∷ [])
+      ((0, 0) ∷ []) ((0, 1) ∷ [])
+  pub two-faced-ideal : RulesIdeally tableTwoFaced twoFaced ((0, 0) ∷ []) ((0, 1) ∷ []) true
   pub two-faced-premise : Premise tableTwoFaced
   -- with a share asked for too late, there is no receipt for the vote that is not on the board
-  pub left-period : Ends tableLeft leftPeriod ((1, 0, 0, 3) ∷ (2, 0, 0, 3) ∷ (3, 0, 0, 3) ∷ []) [] ((0, 0) ∷ [])
-  pub left-period-ideal : Ideally tableLeft leftPeriod [] ((0, 0) ∷ []) true
+  pub left-period : RulesEnd tableLeft leftPeriod ((1, 0, 0, 3) ∷ (2, 0, 0, 3) ∷ (3, 0, 0, 3) ∷ []) [] ((0, 0) ∷ [])
+  pub left-period-ideal : RulesIdeally tableLeft leftPeriod [] ((0, 0) ∷ []) true
   pub left-period-premise : Premise tableLeft
-  -- with fewer than t honest peers both of the clashing votes are receipted, which was not allowed: demand 3 needs its premise
-  pub two-liars : Ends tableLiars twoLiars ((1, 0, 0, 3) ∷ (2, 0, 1, 3) ∷ []) ((0, 0) ∷ (0, 1) ∷ []) []
-  pub two-liars-ideal : Ideally tableLiars twoLiars ((0, 0) ∷ []) [] false
+  -- with fewer than t honest peers both of the clashing votes are receipted, which was not allowed: demand 3 needs
+  -- its premise
+  pub two-liars : RulesEnd tableLiars twoLiars ((1, 0, 0, 3) ∷ (2, 0, 1, 3) ∷ []) ((0, 0) ∷ (0, 1) ∷ []) []
+  pub two-liars-ideal : RulesIdeally tableLiars twoLiars ((0, 0) ∷ []) [] false
   pub two-liars-unsafe : Safe tableLiars (run tableLiars) (calls twoLiars) → ⊥
   -- odd bytes are answered, and make no signer, receipt or board
-  pub odd-bytes : Ends tableOdd oddBytes [] [] []
+  pub odd-bytes : RulesEnd tableOdd oddBytes [] [] []

@@ -5,6 +5,7 @@ use mathlib.Core.List.{List}
 use mathlib.Core.Path.{_≡_}
 use lib.Dec.{eqb}
 use lib.ListN.{length, replicate}
+use Rattle.base.specs.Refusals.{state, numberOf}
 use Rattle.header.specs.Header.{headOf}
 use Rattle.clash.specs.Clash.{clashIn, RowsOf}
 use Rattle.ballot.specs.Table.{refusal}
@@ -40,7 +41,7 @@ leaveOn T c Malformed = c
 unfoldable pub stepAnswer : List ℕ → List ℕ → List ℕ → ℕ
 stepAnswer table s step =
     cond (eqb (refusal table) 0)
-    (cond (stateOk (headOf table) s) (reply (rulesTable table) (stateOf (contents s)) (read step)) 14)
+    (cond (stateOk (headOf table) s) (reply (rulesTable table) (stateOf (contents s)) (read step)) (numberOf state))
     (refusal table)
 
 -- a refused call alters nothing
@@ -49,7 +50,7 @@ stepBytes table s step = cond (eqb (stepAnswer table s step) 0) (encode (leaveOn
 
 -- fresh: the table's refusals 1 to 4, then the buffer's length only
 unfoldable pub freshAnswer : List ℕ → List ℕ → ℕ
-freshAnswer table s = cond (eqb (refusal table) 0) (cond (eqb (length s) size) 0 14) (refusal table)
+freshAnswer table s = cond (eqb (refusal table) 0) (cond (eqb (length s) size) 0 (numberOf state)) (refusal table)
 
 -- the bytes of the fresh state
 unfoldable pub freshState : List ℕ

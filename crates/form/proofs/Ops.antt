@@ -30,7 +30,8 @@ unfolding formed
 not-formed ok st e = rw e
 
 -- the op that stands first, one further on, and none
-pub here : (op n : ℕ) (st : Step) (rest : List (ℕ × Call)) {r : Call} {ok z : Bool} → op ≡ n → r ≡ formed ok st → ok ≡ z → r ≡ select op ((n, formed z st) ∷ rest)
+pub here : (op n : ℕ) (st : Step) (rest : List (ℕ × Call)) {r : Call} {ok z : Bool} → op ≡ n → r ≡ formed ok st → ok ≡ z
+    → r ≡ select op ((n, formed z st) ∷ rest)
 unfolding select
 here op n st rest e f g = rw (eq-eqb op n e) (f ∙ ap (λ (b : Bool). formed b st) g)
 

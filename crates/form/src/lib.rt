@@ -1,4 +1,4 @@
-// A step, read from the thirteen bytes of a call; anything else is malformed.
+// A step, read from the thirteen bytes of a call; anything else is malformed. What a step is written as is in specs.
 // It uses base to read bytes, and rules for what they say.
 ghost use mathlib.Core.Path.{_≡_};
 ghost use Rattle.rules.specs.Form.{allZero, formed, select, laterOps, ops, read};

@@ -1,2 +1,3 @@
 pub mod Demand3
 pub mod Rehearsals
+pub mod Worked

@@ -1,10 +1,10 @@
 -- Demand 3 of the bytes: its premise, and its claim about the very definitions that `step` promises.
 use Prim.Native.Nat.{ℕ, _≤_}
-use mathlib.Core.List.{List, []}
+use mathlib.Core.List.{List}
 use mathlib.Core.Path.{_≡_}
 use Rattle.header.specs.Header.{headOf, thresholdOf, honestCount}
 use Rattle.ballot.specs.Table.{refusal}
-use Rattle.rules.specs.Run.{World, runFrom}
+use Rattle.rules.specs.Run.{World, Engine, after}
 use Rattle.rules.specs.Demand3.{Safe}
 use Rattle.state.specs.Contents.{contents}
 use Rattle.view.specs.View.{stateOf}
@@ -15,9 +15,19 @@ pub record HonestEnough (table : List ℕ) : Type 0 where
   pub taken : refusal table ≡ 0
   pub honest : thresholdOf table ≤ honestCount (headOf table)
 
--- after a list of step calls, on one table and one state buffer, from the fresh state: what the buffer holds, and what the ideal board was fed
-unfoldable pub afterCalls : List ℕ → List (List ℕ) → World
-afterCalls table calls = runFrom (λ s. stateOf (contents s)) (stepAnswer table) (stepBytes table) freshState [] calls
+-- the engine on bytes, of one table: its store is the state buffer
+abbrev pub byBytes : List ℕ → Engine (List ℕ)
+byBytes table = record {
+  starts = freshState;
+  holds = λ s. stateOf (contents s);
+  answers = stepAnswer table;
+  leaves = stepBytes table;
+}
+
+-- after a list of step calls, on one table and one state buffer, from the fresh state: what the buffer holds, and what
+-- the ideal board was fed
+abbrev pub afterCalls : List ℕ → List (List ℕ) → World
+afterCalls table = after (byBytes table)
 
 -- whatever the calls, of any bytes, the board is safe after them
 abbrev pub AlwaysSafe : List ℕ → Type 0

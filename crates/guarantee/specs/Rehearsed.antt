@@ -3,7 +3,7 @@ use Prim.Native.Nat.{ℕ}
 use mathlib.Core.List.{List}
 use mathlib.Core.Path.{_≡_}
 use Rattle.rules.specs.Demand3.{Safe}
-use Rattle.state.specs.Tab.{tab}
+use Rattle.base.specs.Tab.{tab}
 use Rattle.state.specs.Contents.{contents}
 use Rattle.view.specs.View.{stateOf}
 use Rattle.engine.specs.Engine.{rulesTable}

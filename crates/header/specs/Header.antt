@@ -10,11 +10,11 @@ use Rattle.base.specs.Weight.{weight, ones}
 use Rattle.header.specs.declared.Head.{Head}
 
 -- the header's length in bytes, the same for every table
-abbrev pub headerSize : List ℕ → ℕ
+unfoldable pub headerSize : List ℕ → ℕ
 headerSize s = 6
 
 -- byte i of the header: every field is read through it
-abbrev pub fieldOf : List ℕ → ℕ → ℕ
+unfoldable pub fieldOf : List ℕ → ℕ → ℕ
 fieldOf s i = byteAt s i
 
 -- n, the number of peers
@@ -72,4 +72,6 @@ fieldsOk n t honest periods items = thresholdOk n t && (noneAbove n honest && (b
 
 -- the header is whole, and every field of it is in range
 unfoldable pub headerOk : List ℕ → Bool
-headerOk s = leb (headerSize s) (length s) && fieldsOk (peersOf s) (thresholdOf s) (honestOf s) (periodsOf s) (itemsOf s)
+headerOk s =
+    leb (headerSize s) (length s)
+    && fieldsOk (peersOf s) (thresholdOf s) (honestOf s) (periodsOf s) (itemsOf s)

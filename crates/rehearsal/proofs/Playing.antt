@@ -6,7 +6,8 @@ use mathlib.Core.Path.{_≡_, ap, subst, _∙_}
 use lib.ListN.{length, replicate}
 use borrow.Author.Tests.{ne-eqb}
 use Rattle.header.specs.Header.{headOf, peersOf, thresholdOf, honestCount}
-use Rattle.clash.specs.Clash.{RowsOf}
+use Rattle.clash.specs.Clash.{clashRows}
+use Rattle.clash.proofs.Made.{all-rows}
 use Rattle.ballot.specs.Table.{refusal}
 use Rattle.state.specs.Layout.{size}
 use Rattle.state.specs.Contents.{contents, Canon}
@@ -26,21 +27,25 @@ pub cleared : (input t : List ℕ) (n : ℕ) → n ≡ size → t ≡ replicate 
 unfolding stateAt freshState
 cleared input t n long zeros = zeros ∙ ap (λ (k : ℕ). replicate k 0) long
 
-pub made : {input table : List ℕ} {h : Head} {rows : List ℕ} → Taken input → table ≡ tableIn input → h ≡ headOf table → RowsOf table rows → Made input table h rows
-made T cut head clashes = record { taken = T; cut = cut; prepared = record { taken = ap refusal cut ∙ T .table; head = head; clashes = clashes } }
+pub made : {input table : List ℕ} {h : Head} {rows : List ℕ} → Taken input → table ≡ tableIn input → h ≡ headOf table → rows ≡ clashRows table
+    → Made input table h rows
+made T cut head rows =
+    record { taken = T; cut = cut; prepared = record { taken = ap refusal cut ∙ T .table; head = head; clashes = all-rows rows } }
 
 -- the steps were run
 module _ {input table : List ℕ} {h : Head} {rows : List ℕ} (M : Made input table h rows) {a b : ℕ} {s mid more : List ℕ} (ran : Ran input (stepCount input) s mid a more b) where
   pub showable : Canon s × (h .n ≤ 16) × (h .items ≤ 64)
   showable = let R = ready-now M (stepCount input) (ran .state) in (R .canon, R .room .peers, R .room .items)
 
-  first-line : (n : ℕ) → n ≡ honestCount (headOf table) → headLine (h .n) (h .t) n ≡ headLine (peersOf (tableIn input)) (thresholdOf (tableIn input)) (honestCount (headOf (tableIn input)))
-  first-line n honest = rw (M .prepared .head, honest, M .cut)
+  first-line : (n : ℕ) → n ≡ honestCount h
+      → headLine (h .n) (h .t) n ≡ headLine (peersOf (tableIn input)) (thresholdOf (tableIn input)) (honestCount (headOf (tableIn input)))
+  first-line n honest = rw (honest, M .prepared .head, M .cut)
 
   state-shown : stateLines h (contents s) ≡ stateLines (headOf (tableIn input)) (contents (stateAt input (stepCount input)))
   state-shown = rw (M .prepared .head, M .cut, ran .state)
 
-  pub whole-report : {n to : ℕ} {out is : List ℕ} → n ≡ honestCount (headOf table) → Wrote out 0 (headLine (h .n) (h .t) n) mid a → Wrote more b (stateLines h (contents s)) is to → (s ≡ lastState input) × Wrote out 0 (reportOf input) is to
+  pub whole-report : {n to : ℕ} {out is : List ℕ} → n ≡ honestCount h → Wrote out 0 (headLine (h .n) (h .t) n) mid a
+      → Wrote more b (stateLines h (contents s)) is to → (s ≡ lastState input) × Wrote out 0 (reportOf input) is to
   unfolding lastState reportOf
   whole-report {n} honest first shown = (ran .state, renamed (first-line n honest) first ▷ ran .lines ▷ renamed state-shown shown)
 

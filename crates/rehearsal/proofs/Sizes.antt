@@ -2,20 +2,19 @@
 use Prim.Native.Nat.{ℕ, _+_, _*_, _≤_, _<_}
 use native.Mathlib.Omega.{arith}
 use mathlib.Core.Bool.{Bool, true, false, cond}
-use mathlib.Core.List.{List, [], _∷_}
+use mathlib.Core.List.{List}
 use mathlib.Core.Logic.{_⊎_, inl, inr}
 use mathlib.Core.Path.{_≡_}
 use lib.Dec.{eqb}
 use lib.ListN.{length, length-append}
 use borrow.Author.Tests.{eqb-true}
-use Rattle.base.specs.Refusals.{Refusals, first}
+use Rattle.base.specs.Refusals.{numbered, first}
+use Rattle.base.proofs.Refusals.{first-small}
 use Rattle.base.proofs.Truth.{either}
 use Rattle.header.specs.Header.{headOf, peersOf, thresholdOf, honestCount}
 use Rattle.clash.specs.Clash.{clashIn}
 use Rattle.header.proofs.Fields.{honest-most}
 use Rattle.ballot.proofs.Sound.{sound}
-use Rattle.rules.specs.declared.Step.{Step}
-use Rattle.rules.specs.declared.Step.the-variants.{Post, Hand, Sign, Take, Share, Receipt, Close, Fetch, SendHash, Hear, Back, Publish, FalseSignature, FalseShare, FalseHash, FalseBacking, Down, Up}
 use Rattle.rules.specs.declared.Call.{Call}
 use Rattle.rules.specs.declared.Call.the-variants.{Formed, Malformed}
 use Rattle.rules.specs.Table.{Table}
@@ -38,55 +37,20 @@ use Rattle.rehearsal.specs.Running.{Taken}
 use Rattle.rehearsal.proofs.Taking.{taken, both-passed}
 use Rattle.rehearsal.proofs.States.{state-ready}
 
--- an answer is one of its refusals' numbers, and so at most their sum
-abbrev total : Refusals → ℕ
-total [] = 0
-total (r ∷ rest) = r .0 + total rest
-
-first-most : (l : Refusals) → first l ≤ total l
-unfolding first
-first-most [] = omega arith
-first-most (r ∷ rest) = go (r .1) (first-most rest)
-  where
-    go : (b : Bool) → first rest ≤ total rest → cond b (r .0) (first rest) ≤ r .0 + total rest
-    go true l = omega arith
-    go false l = omega (arith, l)
-
 module _ (T : Table) (s : State) where
-  answer-small : (st : Step) → answer T s st < 100
-  unfolding answer rule
-  answer-small (Post x) = omega (arith, first-most (rule T s (Post x) .refusals))
-  answer-small (Hand j x) = omega (arith, first-most (rule T s (Hand j x) .refusals))
-  answer-small (Sign j x) = omega (arith, first-most (rule T s (Sign j x) .refusals))
-  answer-small (Take j k p x) = omega (arith, first-most (rule T s (Take j k p x) .refusals))
-  answer-small (Share j x) = omega (arith, first-most (rule T s (Share j x) .refusals))
-  answer-small (Receipt p x) = omega (arith, first-most (rule T s (Receipt p x) .refusals))
-  answer-small (Close j) = omega (arith, first-most (rule T s (Close j) .refusals))
-  answer-small (Fetch j k p) = omega (arith, first-most (rule T s (Fetch j k p) .refusals))
-  answer-small (SendHash j p) = omega (arith, first-most (rule T s (SendHash j p) .refusals))
-  answer-small (Hear j e) = omega (arith, first-most (rule T s (Hear j e) .refusals))
-  answer-small (Back j) = omega (arith, first-most (rule T s (Back j) .refusals))
-  answer-small (Publish e) = omega (arith, first-most (rule T s (Publish e) .refusals))
-  answer-small (FalseSignature j p x) = omega (arith, first-most (rule T s (FalseSignature j p x) .refusals))
-  answer-small (FalseShare j p x) = omega (arith, first-most (rule T s (FalseShare j p x) .refusals))
-  answer-small (FalseHash j p B) = omega (arith, first-most (rule T s (FalseHash j p B) .refusals))
-  answer-small (FalseBacking j p B) = omega (arith, first-most (rule T s (FalseBacking j p B) .refusals))
-  answer-small (Down j) = omega (arith, first-most (rule T s (Down j) .refusals))
-  answer-small (Up j) = omega (arith, first-most (rule T s (Up j) .refusals))
-
   reply-small : (c : Call) → reply T s c < 100
-  unfolding reply
-  reply-small (Formed st) = answer-small st
+  unfolding reply answer
+  reply-small (Formed st) = first-small (rule T s st .refusals)
   reply-small Malformed = omega arith
 
 refusal-small : (input s : List ℕ) → lentRefusal input s < 100
 unfolding inputRefusal lentRefusal
-refusal-small input s = go (eqb (first (inputRefusals input)) 0) (eqb (length s) size)
+refusal-small input s = go (eqb (first (numbered (inputRefusals input))) 0) (eqb (length s) size)
   where
-    go : (taken long : Bool) → cond taken (cond long 0 14) (first (inputRefusals input)) < 100
+    go : (taken long : Bool) → cond taken (cond long 0 14) (first (numbered (inputRefusals input))) < 100
     go true true = omega arith
     go true false = omega arith
-    go false long = omega (arith, first-most (inputRefusals input))
+    go false long = first-small (inputRefusals input)
 
 module _ (input : List ℕ) (T : Taken input) where
   abbrev table : List ℕ

@@ -4,7 +4,7 @@ use native.Mathlib.Omega.{arith}
 use mathlib.Core.Bool.{cond, true, false}
 use mathlib.Core.List.{List}
 use mathlib.Core.Logic.{_⊎_, inl, inr}
-use mathlib.Core.Path.{_≡_, refl, sym}
+use mathlib.Core.Path.{_≡_, sym}
 use lib.Dec.{eqb}
 use lib.ListN.{length}
 use borrow.Author.Tests.{eq-eqb, ne-eqb, eqb-true, leb-true, ltb-false, not-false}
@@ -21,7 +21,7 @@ use Rattle.rehearsal.specs.Running.{Taken}
 module _ (input : List ℕ) (zero : inputRefusal input ≡ 0) where
   all-passed : Passed (inputRefusals input)
   unfolding inputRefusal
-  all-passed = passed (inputRefusals input) refl zero
+  all-passed = passed (inputRefusals input) zero
 
   reaches : tableEnd input ≤ length input
   unfolding tableThere
@@ -36,7 +36,7 @@ module _ (input : List ℕ) (zero : inputRefusal input ≡ 0) where
 
 -- the refusals of a rehearsal in a lent state, one after the other
 
-module _ {input s : List ℕ} {r : ℕ} (judged : r ≡ inputRefusal input) where
+module _ (input s : List ℕ) {r : ℕ} (judged : r ≡ inputRefusal input) where
   pub input-refused : (r ≡ 0 → ⊥) → r ≡ lentRefusal input s
   unfolding lentRefusal
   input-refused bad = rw (sym judged, ne-eqb r 0 bad)

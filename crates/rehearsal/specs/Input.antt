@@ -5,7 +5,8 @@ use mathlib.Core.List.{List, _∷_}
 use lib.Dec.{leb, ltb}
 use lib.ListN.{length}
 use Rattle.base.specs.Bytes.{part}
-use Rattle.base.specs.Refusals.{Refusals, first}
+use Rattle.base.specs.Refusals.{Refusals, header, pairs, numbered, first}
+use Rattle.base.specs.Refusals as word
 use Rattle.header.specs.Header.{headerSize, itemsOf, headerOk}
 use Rattle.pairs.specs.Pairs.{pairsFit, lastEnd}
 use Rattle.ballot.specs.Table.{tableRefusals}
@@ -30,13 +31,17 @@ tableIn input = part input 0 (tableEnd input)
 unfoldable pub tableThere : List ℕ → Bool
 tableThere input = pairsFit input (headerSize input) (itemsOf input) && leb (tableEnd input) (length input)
 
--- 15 comes before all; header and pairs, which say where the table ends, are judged on the input; then the table's own
+-- input comes before all; header and pairs, which say where the table ends, are judged on the input; then the table's own
 abbrev pub inputRefusals : List ℕ → Refusals
-inputRefusals input = (15, ltb inputMost (length input)) ∷ (1, not (headerOk input)) ∷ (2, not (tableThere input)) ∷ tableRefusals (tableIn input)
+inputRefusals input =
+    (word.input, ltb inputMost (length input))
+    ∷ (header, not (headerOk input))
+    ∷ (pairs, not (tableThere input))
+    ∷ tableRefusals (tableIn input)
 
 -- the first of them that applies, and 0 where none does
 unfoldable pub inputRefusal : List ℕ → ℕ
-inputRefusal input = first (inputRefusals input)
+inputRefusal input = first (numbered (inputRefusals input))
 
 -- how many steps there are: a short tail is one
 unfoldable pub stepCount : List ℕ → ℕ

@@ -4,6 +4,7 @@ use mathlib.Core.Bool.{cond}
 use mathlib.Core.List.{List, _++_}
 use lib.Dec.{eqb}
 use lib.ListN.{length}
+use Rattle.base.specs.Refusals.{state, numberOf}
 use Rattle.header.specs.Header.{headOf, peersOf, thresholdOf, honestCount}
 use Rattle.state.specs.Layout.{size}
 use Rattle.state.specs.Contents.{contents}
@@ -34,9 +35,9 @@ reportOf input =
     ++ each (stepAt input) (stepCount input)
     ++ stateLines (headOf table) (contents (lastState input))
 
--- the first refusal of a rehearsal in a lent state buffer: of the input, then 14 for the buffer's length
+-- the first refusal of a rehearsal in a lent state buffer: of the input, then state for the buffer's length
 unfoldable pub lentRefusal : List ℕ → List ℕ → ℕ
-lentRefusal input s = cond (eqb (inputRefusal input) 0) (cond (eqb (length s) size) 0 14) (inputRefusal input)
+lentRefusal input s = cond (eqb (inputRefusal input) 0) (cond (eqb (length s) size) 0 (numberOf state)) (inputRefusal input)
 
 -- the whole output: the report, or the line of the refusal
 unfoldable pub reported : List ℕ → List ℕ → List ℕ

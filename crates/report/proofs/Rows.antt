@@ -14,9 +14,9 @@ use Rattle.header.specs.Quorum.{countIn}
 use Rattle.state.specs.Layout.{periods, items}
 use Rattle.state.specs.Facts.{isSpot}
 use Rattle.state.specs.Contents.{Contents, contents}
-use Rattle.state.specs.Tab.{tab}
+use Rattle.base.specs.Tab.{tab}
 use Rattle.state.proofs.Ranges.{spot-within}
-use Rattle.state.proofs.Tab.{tab-ext, getD-tab}
+use Rattle.base.proofs.Tab.{tab-ext, getD-tab}
 use Rattle.state.specs.Sets.{signersOf}
 use Rattle.sets.proofs.Words.{signers-out}
 use Rattle.sets.specs.Database.{rowOf, databaseOf}

@@ -14,7 +14,7 @@ use Rattle.state.specs.Layout.{items}
 use Rattle.state.specs.Contents.{Contents}
 use Rattle.state.specs.Sets.{signersOf}
 use Rattle.sets.specs.Database.{rowOf, onBoard, peerBoard}
-use Rattle.state.proofs.Tab.{getD-tab}
+use Rattle.base.proofs.Tab.{getD-tab}
 
 abbrev set : List Signers → ℕ → Signers
 set sets i = getD sets i (record { 0 = 0 })

@@ -17,12 +17,12 @@ use Rattle.state.specs.declared.Fact.{Fact}
 use Rattle.state.specs.declared.Fact.the-variants.{Posted, Signed, Shared, Receipted, Held, Known, Heard}
 use Rattle.state.specs.Layout.{peers, items}
 use Rattle.state.specs.Facts.{inRange, isPeer, Peer}
-use Rattle.state.specs.Tab.{tab}
+use Rattle.base.specs.Tab.{tab}
 use Rattle.state.specs.Contents.{Contents, contents, Canon, Holds, adding}
 use Rattle.state.specs.Sets.{signersOf, inSet, onItem, knownTo}
 use Rattle.sets.specs.Database.{rowOf, onRow}
 use Rattle.state.specs.Sets.{fetched}
-use Rattle.state.proofs.Tab.{getD-tab}
+use Rattle.base.proofs.Tab.{getD-tab}
 use Rattle.state.proofs.Ranges.{peer-within, within-peer, range-within}
 use Rattle.state.proofs.Frame.{has-none}
 use Rattle.sets.proofs.Union.{known-is}

@@ -9,7 +9,7 @@ use Rattle.header.specs.declared.Head.{Head}
 use Rattle.header.specs.declared.Signers.{Signers}
 use Rattle.header.specs.Quorum.{reaches}
 use Rattle.state.specs.Layout.{periods, items}
-use Rattle.state.specs.Tab.{tab}
+use Rattle.base.specs.Tab.{tab}
 use Rattle.state.specs.Contents.{Contents}
 use Rattle.state.specs.Sets.{signersOf, inSet}
 

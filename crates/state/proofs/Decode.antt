@@ -23,10 +23,10 @@ use Rattle.state.specs.Places.{place, factAt}
 use Rattle.state.specs.Numbers.{slot, peerOf, numberOf}
 use Rattle.rules.specs.Bag.{kindOf, signerOf, periodOf, boardOf, noEntry, entryAt as nth}
 use Rattle.state.specs.Entries.{entryByte, EntryFits}
-use Rattle.state.specs.Tab.{tab}
+use Rattle.base.specs.Tab.{tab}
 use Rattle.state.specs.Contents.{Contents, count, entryAt, contents, Settled, Canon, Holds, Fits}
 use Rattle.state.specs.Encode.{bagByte, stateByte, encode}
-use Rattle.state.proofs.Tab.{tab-ext, tab-getD, length-tab, getD-tab, getD-tab-out}
+use Rattle.base.proofs.Tab.{tab-ext, tab-getD, length-tab, getD-tab, getD-tab-out}
 use Rattle.state.proofs.Ranges.{range-within, peer-within}
 use Rattle.state.proofs.Places.{by-test, before, after, place-lt, fact-at}
 use Rattle.state.proofs.Slots.{slot-within, number-at}

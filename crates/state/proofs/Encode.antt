@@ -16,10 +16,10 @@ use Rattle.state.specs.Places.{factAt}
 use Rattle.state.specs.Numbers.{peerOf, numberOf}
 use Rattle.rules.specs.Bag.{periodOf, boardOf, noEntry, entryAt as nth}
 use Rattle.state.specs.Entries.{entryByte}
-use Rattle.state.specs.Tab.{tab}
+use Rattle.base.specs.Tab.{tab}
 use Rattle.state.specs.Contents.{Contents, count, entryAt, contents, Canon, Holds}
 use Rattle.state.specs.Encode.{bagByte, stateByte, encode}
-use Rattle.state.proofs.Tab.{length-tab, getD-tab}
+use Rattle.base.proofs.Tab.{length-tab, getD-tab}
 use Rattle.state.proofs.Ranges.{within-range, within-peer}
 use Rattle.state.proofs.Places.{by-test, at-place}
 use Rattle.state.proofs.Slots.{at-slot}

@@ -17,9 +17,9 @@ use Rattle.state.specs.Layout.{currentAt, countAt, entrySize, entryStart
 use Rattle.state.specs.Facts.{inRange, isPeer}
 use Rattle.state.specs.Places.{place}
 use Rattle.state.specs.Numbers.{peerOf, slot}
-use Rattle.state.specs.Tab.{tab}
+use Rattle.base.specs.Tab.{tab}
 use Rattle.state.specs.Contents.{count, entryAt, contents, Settled, Canon}
-use Rattle.state.proofs.Tab.{tab-ext}
+use Rattle.base.proofs.Tab.{tab-ext}
 use Rattle.state.proofs.Ranges.{range-within, peer-within}
 use Rattle.state.proofs.Places.{place-lt}
 use Rattle.state.proofs.Slots.{slot-within}

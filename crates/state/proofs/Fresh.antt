@@ -18,7 +18,7 @@ use Rattle.state.specs.Facts.{inRange, isPeer}
 use Rattle.state.specs.Places.{place}
 use Rattle.state.specs.Numbers.{slot, peerOf}
 use Rattle.state.specs.Entries.{EntryFits}
-use Rattle.state.specs.Tab.{tab}
+use Rattle.base.specs.Tab.{tab}
 use Rattle.state.specs.Contents.{count, entryAt, contents, Canon, Holds, Fits, empty}
 use Rattle.state.proofs.Frame.{number-byte, number-none}
 use Rattle.state.proofs.Encode.{bag-length, entry-nth, entry-period, entry-board}

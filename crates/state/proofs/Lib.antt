@@ -1,4 +1,3 @@
-pub mod Tab
 pub mod Ranges
 mod Arms
 pub mod Places

@@ -6,7 +6,7 @@ use lib.Dec.{ltb}
 use lib.ListN.{length}
 use Rattle.base.specs.Bits.{pack}
 use Rattle.rules.specs.declared.Entry.{Entry}
-use Rattle.state.specs.Tab.{tab}
+use Rattle.base.specs.Tab.{tab}
 use Rattle.state.specs.Layout.{currentAt, countAt, bagAt, entrySize, size}
 use Rattle.state.specs.Places.{factAt}
 use Rattle.state.specs.Numbers.{numberOf}

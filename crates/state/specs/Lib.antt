@@ -1,4 +1,3 @@
-pub mod Tab
 pub mod Layout
 pub mod Facts
 pub mod Places

@@ -20,9 +20,9 @@ use Rattle.rules.specs.declared.Entry.the-variants.{Hash, Backing, Board}
 use Rattle.rules.specs.Bag.{isHash, noEntry, entryAt as nthOf}
 use Rattle.state.specs.Layout.{entryStart, hashKind}
 use Rattle.state.specs.Entries.{entryOf}
-use Rattle.state.specs.Tab.{tab}
+use Rattle.base.specs.Tab.{tab}
 use Rattle.state.specs.Contents.{count, entryAt, contents}
-use Rattle.state.proofs.Tab.{length-tab, getD-tab, getD-tab-out}
+use Rattle.base.proofs.Tab.{length-tab, getD-tab, getD-tab-out}
 use Rattle.valid.specs.Rows.{byteOf, mask}
 use Rattle.valid.specs.Regions.{entryBytes, hashIn}
 use Rattle.valid.proofs.Only.{bit-in, same-test}

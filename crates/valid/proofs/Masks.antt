@@ -15,8 +15,8 @@ use Rattle.base.proofs.Truth.{iff}
 use Rattle.base.proofs.Bits.{bit-none, bit-pack, pack-bit, pack-ext}
 use Rattle.bits.specs.Row.{bitAt}
 use Rattle.state.specs.Layout.{peers, periods}
-use Rattle.state.specs.Tab.{FilledTo}
-use Rattle.state.proofs.Tab.{tab-ext, getD-tab, length-tab, filled-none, filled-more, filled-all}
+use Rattle.base.specs.Tab.{FilledTo}
+use Rattle.base.proofs.Tab.{tab-ext, getD-tab, length-tab, filled-none, filled-more, filled-all}
 use Rattle.valid.specs.Rows.{onlyIn, first, inRows, byteOf, mask}
 use Rattle.valid.proofs.Only.{same-test, only-ext}
 

@@ -8,7 +8,7 @@ use Rattle.base.specs.Below.{every}
 use Rattle.base.specs.Bits.{pack}
 use Rattle.bits.specs.Row.{bitAt}
 use Rattle.state.specs.Layout.{peers, periods}
-use Rattle.state.specs.Tab.{tab}
+use Rattle.base.specs.Tab.{tab}
 
 -- of the bits of the n bytes from o on, numbered from 0, only those that pass f are 1
 unfoldable pub onlyIn : ℕ → List ℕ → ℕ → (ℕ → Bool) → Bool

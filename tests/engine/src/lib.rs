@@ -1,13 +1,34 @@
-//! The proved engine, called as C calls it, and what its tests need to compare
-//! it with the plain reference.
+//! The proved engine, called as C calls it, the plain one, and what it takes to
+//! compare them with the reference.
 //!
 //! - `layout`: the state's bytes, from docs/STATE.md
 //! - `row14`: which bytes are a state, from document 01's row 14
-//! - `pair`: engine and reference on the same calls
+//! - `pair`: engines and reference on the same calls
 
 pub mod layout;
 pub mod pair;
 pub mod row14;
+
+/// An engine over lent bytes.
+#[derive(Clone, Copy)]
+pub struct Engine {
+    pub name: &'static str,
+    /// Table and state: the answer.
+    pub fresh: fn(&[u8], &mut [u8]) -> u8,
+    /// Table, state and step: the answer.
+    pub step: fn(&[u8], &mut [u8], &[u8]) -> u8,
+    /// Input, state and room for the report: the report's length.
+    pub rehearse: fn(&[u8], &mut [u8], &mut [u8]) -> usize,
+}
+
+pub const PROVED: Engine =
+    Engine { name: "proved", fresh: board_fresh, step: board_step, rehearse: board_rehearse };
+
+pub const PLAIN: Engine =
+    Engine { name: "plain", fresh: plain::fresh, step: plain::step, rehearse: plain::rehearse };
+
+/// The engines that are held to the reference.
+pub const ENGINES: [Engine; 2] = [PROVED, PLAIN];
 
 mod c {
     extern "C" {

@@ -1,11 +1,11 @@
-//! Engine and reference on the same calls.
+//! The engines beside the reference, on the same calls.
 
-use crate::layout::encode;
-use crate::{board_fresh, board_state_length, board_step};
+use crate::layout::{encode, LENGTH};
+use crate::{Engine, ENGINES};
 use reference::state::State;
 use reference::table::{read_table, Table};
 
-/// A table, with the reference's state and the engine's buffer on it.
+/// A table with the reference's state on it, and the bytes of that state.
 pub struct Pair {
     pub text: Vec<u8>,
     pub table: Table,
@@ -13,30 +13,62 @@ pub struct Pair {
     pub buffer: Vec<u8>,
 }
 
+/// A step call, and what the reference makes of it.
+pub struct Call<'a> {
+    pub table: &'a [u8],
+    pub before: &'a [u8],
+    pub step: &'a [u8],
+    pub answer: u8,
+    pub after: &'a [u8],
+}
+
 impl Pair {
+    /// The fresh state, from every engine.
     pub fn fresh(text: Vec<u8>) -> Pair {
         let table = read_table(&text).expect("a valid table");
         let state = State::fresh(&table);
-        let mut buffer = vec![0xA5; board_state_length()];
-        assert_eq!(board_fresh(&text, &mut buffer), 0);
-        assert!(buffer == encode(&state));
+        let buffer = encode(&state);
+        for Engine { name, fresh, .. } in ENGINES {
+            let mut bytes = vec![0xA5; LENGTH];
+            assert_eq!(fresh(&text, &mut bytes), 0, "{name}");
+            assert!(bytes == buffer, "{name}: another fresh state");
+        }
         Pair { text, table, state, buffer }
     }
 
-    /// One step call on both: the same answer, the same bytes after it, and no
-    /// byte changed by a refusal.
+    /// One step call on all: the same answer and the same bytes after it.
     pub fn call(&mut self, step: &[u8]) -> u8 {
-        let before = self.buffer.clone();
-        let answer = board_step(&self.text, &mut self.buffer, step);
-        let expected = reference::step::step(&self.table, &mut self.state, step);
-        let after = encode(&self.state);
-        let change = (0..after.len()).find(|at| self.buffer[*at] != after[*at]);
-        if answer != expected || change.is_some() {
-            let zeros = before.iter().enumerate().filter(|(_, byte)| **byte != 0);
+        self.call_on(&ENGINES, step).unwrap_or_else(|difference| {
+            let zeros = self.buffer.iter().enumerate().filter(|(_, byte)| **byte != 0);
             println!("table {:?}\nstate, where not 0, {:?}", self.text, zeros.collect::<Vec<_>>());
-            panic!("step {step:?}: {answer}, not {expected}; first wrong byte {change:?}");
+            panic!("{difference}");
+        })
+    }
+
+    /// One step call on these engines: the answer, or how one of them differs.
+    pub fn call_on(&mut self, engines: &[Engine], step: &[u8]) -> Result<u8, String> {
+        let answer = reference::step::step(&self.table, &mut self.state, step);
+        let after = encode(&self.state);
+        assert!(answer == 0 || after == self.buffer, "the reference changed by a refused step");
+        let (table, before) = (&self.text[..], &self.buffer[..]);
+        let call = Call { table, before, step, answer, after: &after };
+        engines.iter().try_for_each(|engine| call.compare(engine))?;
+        self.buffer = after;
+        Ok(answer)
+    }
+}
+
+impl Call<'_> {
+    /// Calls the engine; how it differs, if it does.
+    pub fn compare(&self, engine: &Engine) -> Result<(), String> {
+        let mut bytes = self.before.to_vec();
+        let answer = (engine.step)(self.table, &mut bytes, self.step);
+        if answer == self.answer && bytes == self.after {
+            return Ok(());
         }
-        assert!(answer == 0 || self.buffer == before, "step {step:?} refused, but changed");
-        answer
+        let wrong = (0..bytes.len()).find(|at| bytes[*at] != self.after[*at]);
+        let (name, step, expected) = (engine.name, self.step, self.answer);
+        let place = wrong.map_or("none".to_string(), |at| at.to_string());
+        Err(format!("{name}, step {step:?}: {answer}, not {expected}; first wrong byte {place}"))
     }
 }

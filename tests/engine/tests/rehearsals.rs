@@ -2,7 +2,7 @@
 //! fresh and step lead to.
 
 use engine::layout::{encode, LENGTH};
-use engine::{board_fresh, board_rehearse, board_report_most, board_step};
+use engine::{board_report_most, Engine, ENGINES, PLAIN};
 use inputs::answers::Answers;
 use inputs::kinds::{rehearsal, round};
 use inputs::random::{run_seed, Random};
@@ -42,8 +42,16 @@ struct Expected {
     state: Option<Vec<u8>>,
 }
 
+impl Expected {
+    fn of(rehearsed: &Rehearsed) -> Expected {
+        let state = rehearsed.outcome.as_ref().ok().map(|outcome| encode(&outcome.state));
+        Expected { report: rehearse(rehearsed.input), state }
+    }
+}
+
 /// The first thing that goes wrong in a call with buffers of these lengths.
 fn call(
+    engine: &Engine,
     random: &mut Random,
     input: &[u8],
     expected: &Expected,
@@ -58,7 +66,7 @@ fn call(
         out_after.write(&expected.report);
         length = expected.report.len();
     }
-    let answer = board_rehearse(input, state.part(), out.part());
+    let answer = (engine.rehearse)(input, state.part(), out.part());
     let place = |x: &Lent, y: &Lent| (0..x.0.len()).find(|at| x.0[*at] != y.0[*at]);
     if answer != length {
         Err(format!("length {answer}, not {length}"))
@@ -72,40 +80,52 @@ fn call(
 }
 
 /// The state that fresh and a step call for each step lead to.
-fn stepped(rehearsed: &Rehearsed) -> Option<Vec<u8>> {
+fn stepped(engine: &Engine, rehearsed: &Rehearsed) -> Option<Vec<u8>> {
     let outcome = rehearsed.outcome.as_ref().ok()?;
     let (table, mut state) = (&rehearsed.input[..outcome.end], vec![0xA5; LENGTH]);
-    board_fresh(table, &mut state);
+    (engine.fresh)(table, &mut state);
     for (step, _) in rehearsed.calls() {
-        board_step(table, &mut state, step);
+        (engine.step)(table, &mut state, step);
     }
     Some(state)
 }
 
 /// Calls with a longer out and, now and then, with a shorter one and with a
 /// state of a wrong length.
-fn compare(random: &mut Random, rehearsed: &Rehearsed) -> Result<(), String> {
-    let input = rehearsed.input;
-    let state = rehearsed.outcome.as_ref().ok().map(|outcome| encode(&outcome.state));
-    let expected = Expected { report: rehearse(input), state };
+fn compare(
+    engine: &Engine,
+    random: &mut Random,
+    rehearsed: &Rehearsed,
+    expected: &Expected,
+) -> Result<(), String> {
+    let (input, length) = (rehearsed.input, expected.report.len());
+    let longer = length + random.below(300);
+    call(engine, random, input, expected, LENGTH, longer)?;
+    if random.once_in(3) {
+        let shorter = [0, 1, length - 1, random.below(length)][random.below(4)];
+        call(engine, random, input, expected, LENGTH, shorter)?;
+    }
+    if random.once_in(3) {
+        let wrong = [0, LENGTH - 1, LENGTH + 1][random.below(3)];
+        call(engine, random, input, expected, wrong, longer)?;
+    }
+    if stepped(engine, rehearsed) != expected.state {
+        return Err("the state differs from that after fresh and each step".to_string());
+    }
+    Ok(())
+}
+
+/// How an engine differs, if one does.
+fn compare_all(number: usize, seed: u64, rehearsed: &Rehearsed) -> Result<(), String> {
+    let expected = Expected::of(rehearsed);
     let length = expected.report.len();
     if length > board_report_most() {
         return Err(format!("a report of {length} bytes, more than board_report_most"));
     }
-    let longer = length + random.below(300);
-    call(random, input, &expected, LENGTH, longer)?;
-    if random.once_in(3) {
-        let shorter = [0, 1, length - 1, random.below(length)][random.below(4)];
-        call(random, input, &expected, LENGTH, shorter)?;
-    }
-    if random.once_in(3) {
-        let wrong = [0, LENGTH - 1, LENGTH + 1][random.below(3)];
-        call(random, input, &expected, wrong, longer)?;
-    }
-    if stepped(rehearsed) != expected.state {
-        return Err("the state differs from that after fresh and each step".to_string());
-    }
-    Ok(())
+    ENGINES.iter().try_for_each(|engine| {
+        let wrong = compare(engine, &mut Random::new(!seed, number), rehearsed, &expected);
+        wrong.map_err(|wrong| format!("{}, {wrong}", engine.name))
+    })
 }
 
 /// The input's bytes, shortened.
@@ -118,6 +138,24 @@ fn hex(input: &[u8]) -> String {
     }
 }
 
+/// The comparison can fail: a report with one other byte is found.
+#[test]
+fn another_report_is_found() {
+    let input = rehearsal(1, 0).1;
+    let rehearsed = Rehearsed::new(&input);
+    let expected = Expected::of(&rehearsed);
+    let wrong = Engine {
+        rehearse: |input, state, out| {
+            let length = (PLAIN.rehearse)(input, state, out);
+            out[length / 2] ^= 1;
+            length
+        },
+        ..PLAIN
+    };
+    let compare = |engine| compare(engine, &mut Random::new(1, 0), &rehearsed, &expected);
+    assert_eq!((compare(&PLAIN).is_ok(), compare(&wrong).is_err()), (true, true));
+}
+
 #[test]
 fn same_reports() {
     let (seed, mut answers) = (run_seed(), Answers::default());
@@ -126,7 +164,7 @@ fn same_reports() {
         let rehearsed = Rehearsed::new(&input);
         assert!((kind.fits)(&rehearsed), "seed {seed}, number {number}: not {}", kind.name);
         answers.count_all(&rehearsed);
-        if let Err(wrong) = compare(&mut Random::new(!seed, number), &rehearsed) {
+        if let Err(wrong) = compare_all(number, seed, &rehearsed) {
             let (name, length, hex) = (kind.name, input.len(), hex(&input));
             panic!("seed {seed}, number {number}, {name}: {wrong}\ninput, {length} bytes: {hex}");
         }

@@ -1,10 +1,11 @@
 //! Lent states, with bytes changed at random: 14 where row 14 says so, and
 //! elsewhere the same answers and bytes as the reference's.
 
-use engine::board_step;
 use engine::layout::*;
-use engine::pair::Pair;
+use engine::pair::{Call, Pair};
 use engine::row14::is_state;
+use engine::ENGINES;
+use inputs::answers::{Answers, ROWS};
 use inputs::random::{run_seed, Random};
 use inputs::steps::random_steps;
 use inputs::tables::random_table;
@@ -15,7 +16,7 @@ use reference::state::Entry;
 struct Seen {
     refused: [usize; PARTS.len()],
     passed: [usize; PARTS.len()],
-    answers: [usize; 16],
+    answers: Answers,
 }
 
 /// The parts of the state: from one of these bytes to the next.
@@ -96,12 +97,13 @@ fn judge(random: &mut Random, pair: &Pair, seen: &mut Seen) {
         return follow(random, pair, bytes, seen);
     }
     seen.refused[part] += 1;
-    let before = bytes.clone();
     let step = random_steps(random, &pair.table, &pair.state).remove(0);
-    let answer = board_step(&pair.text, &mut bytes, &step);
-    let places: Vec<usize> = (0..LENGTH).filter(|at| before[*at] != pair.buffer[*at]).collect();
-    assert_eq!(answer, 14, "table {:?}, damage at {places:?}", pair.text);
-    assert!(bytes == before, "a refused state changed");
+    let (table, before, after) = (&pair.text[..], &bytes[..], &bytes[..]);
+    let call = Call { table, before, step: &step, answer: 14, after };
+    if let Err(difference) = ENGINES.iter().try_for_each(|engine| call.compare(engine)) {
+        let places: Vec<usize> = (0..LENGTH).filter(|at| bytes[*at] != pair.buffer[*at]).collect();
+        panic!("table {table:?}, damage at {places:?}: {difference}");
+    }
 }
 
 /// Further steps on a lent state that passes.
@@ -111,7 +113,7 @@ fn follow(random: &mut Random, pair: &Pair, buffer: Vec<u8>, seen: &mut Seen) {
     let mut lent = Pair { text: pair.text.clone(), table: pair.table.clone(), state, buffer };
     for _ in 0..6 {
         for step in random_steps(random, &lent.table, &lent.state).iter().take(8) {
-            seen.answers[lent.call(step) as usize] += 1;
+            seen.answers.count(step, lent.call(step));
         }
     }
 }
@@ -134,7 +136,8 @@ fn same_verdicts() {
         }
     }
     println!("parts {PARTS:?}\nrefused {:?}\npassed {:?}", seen.refused, seen.passed);
-    println!("answers after passing {:?}, {full} full bags", seen.answers);
+    println!("{full} full bags; answers after passing\n{}", seen.answers);
     assert!(seen.refused.iter().chain(&seen.passed).all(|times| *times > 50));
-    assert!(seen.answers.iter().skip(5).take(9).all(|times| *times > 50) && full > 10);
+    let answers = ROWS.iter().flat_map(|row| row.answers);
+    assert!(answers.into_iter().all(|answer| seen.answers.times(*answer) > 50) && full > 10);
 }

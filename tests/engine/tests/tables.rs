@@ -2,10 +2,11 @@
 //! nothing written by them.
 
 use engine::layout::LENGTH;
-use engine::{board_fresh, board_state_length, board_step};
+use engine::{board_state_length, Engine, ENGINES};
 use inputs::random::{run_seed, Random};
 use inputs::tables::damaged_table;
 use reference::table::read_table;
+use std::collections::BTreeMap;
 
 /// The answer to a fresh call on a buffer of that length.
 fn expected(table: &[u8], length: usize) -> u8 {
@@ -18,37 +19,38 @@ fn expected(table: &[u8], length: usize) -> u8 {
 
 /// Both calls on a part of some dirty bytes. What is around that part is never
 /// written, and the part itself only by a fresh call that is taken.
-fn compare(random: &mut Random, text: &[u8], length: usize) -> u8 {
+fn compare(engine: &Engine, text: &[u8], length: usize, dirty: &[u8], any_step: &[u8]) {
     let answer = expected(text, length);
-    let dirty = vec![random.bits() as u8 | 1; length + 32];
-    let mut bytes = dirty.clone();
-    let any_step = vec![random.below(20) as u8; random.between(0, 20)];
-    let step_answer = board_step(text, &mut bytes[16..16 + length], &any_step);
+    let place = format!("{}: table {text:?}, length {length}", engine.name);
+    let mut bytes = dirty.to_vec();
+    let step_answer = (engine.step)(text, &mut bytes[16..16 + length], any_step);
     let dirty_answer = if answer == 0 { 14 } else { answer };
-    assert_eq!(step_answer, dirty_answer, "table {text:?}, length {length}, step {any_step:?}");
-    assert!(bytes == dirty, "table {text:?}, length {length}: a refused step wrote");
+    assert_eq!(step_answer, dirty_answer, "{place}, step {any_step:?}");
+    assert!(bytes == dirty, "{place}: a refused step wrote");
 
-    assert_eq!(board_fresh(text, &mut bytes[16..16 + length]), answer, "table {text:?}");
-    let mut after = dirty;
+    assert_eq!((engine.fresh)(text, &mut bytes[16..16 + length]), answer, "{place}");
+    let mut after = dirty.to_vec();
     if answer == 0 {
         after[16..16 + length].fill(0);
     }
-    assert!(bytes == after, "table {text:?}, length {length}: fresh wrote something else");
-    answer
+    assert!(bytes == after, "{place}: fresh wrote something else");
 }
 
 #[test]
 fn same_refusals() {
     assert_eq!(board_state_length(), LENGTH);
-    let (seed, mut seen) = (run_seed(), [0; 15]);
+    let (seed, mut seen) = (run_seed(), BTreeMap::<u8, usize>::new());
     for number in 0..40_000 {
         let mut random = Random::new(seed, number);
         let text = damaged_table(&mut random);
         let lengths = [0, 1, LENGTH - 1, LENGTH + 1, 2 * LENGTH];
         let wrong = lengths[random.below(lengths.len())];
         let length = if random.once_in(4) { wrong } else { LENGTH };
-        seen[compare(&mut random, &text, length) as usize] += 1;
+        let dirty = vec![random.bits() as u8 | 1; length + 32];
+        let any_step = vec![random.below(20) as u8; random.between(0, 20)];
+        ENGINES.iter().for_each(|engine| compare(engine, &text, length, &dirty, &any_step));
+        *seen.entry(expected(&text, length)).or_default() += 1;
     }
-    println!("{} tables; answers to fresh {seen:?}", seen.iter().sum::<usize>());
-    assert!([0, 1, 2, 3, 4, 14].into_iter().all(|answer| seen[answer] > 100));
+    println!("{} tables; answers to fresh {seen:?}", seen.values().sum::<usize>());
+    assert!([0, 1, 2, 3, 4, 14].into_iter().all(|answer| seen[&answer] > 100));
 }

@@ -2,64 +2,66 @@
 
 use crate::rehearsed::Rehearsed;
 use reference::form::STEP_LENGTH;
+use std::collections::{BTreeMap, BTreeSet};
 use std::fmt;
 
-/// The ops by name; the first is for bytes that are no step.
-pub const OPS: [&str; 19] = [
-    "no step",
-    "post",
-    "hand",
-    "sign",
-    "take",
-    "share",
-    "receipt",
-    "close",
-    "fetch",
-    "hash",
-    "hear",
-    "back",
-    "publish",
-    "false signature",
-    "false share",
-    "false hash",
-    "false backing",
-    "down",
-    "up",
+/// The fields that an op uses, by name; an entry is an item.
+type Fields = &'static [&'static str];
+
+/// An op with its fields and the answers that document 01's table gives it.
+pub struct Row {
+    pub op: u8,
+    pub name: &'static str,
+    pub fields: Fields,
+    pub answers: &'static [u8],
+}
+
+const fn row(op: u8, name: &'static str, fields: Fields, answers: &'static [u8]) -> Row {
+    Row { op, name, fields, answers }
+}
+
+/// The ops in their order; the first row is for bytes that are no step: another
+/// length, or another op. A new op is a row more, a new answer a number more.
+pub static ROWS: &[Row] = &[
+    row(0, "no step", &[], &[5]),
+    row(1, "post", &["item"], &[0, 5, 6]),
+    row(2, "hand", &["peer", "item"], &[0, 5, 6, 7, 8, 9, 10, 11]),
+    row(3, "sign", &["peer", "item"], &[0, 5, 6, 7, 8, 9, 10]),
+    row(4, "take", &["peer", "other", "period", "item"], &[0, 5, 6, 7, 8, 9, 10]),
+    row(5, "share", &["peer", "item"], &[0, 5, 6, 7, 8, 9, 12]),
+    row(6, "receipt", &["period", "item"], &[0, 5, 6, 12]),
+    row(7, "close", &["peer"], &[0, 5, 6, 7, 8, 9]),
+    row(8, "fetch", &["peer", "other", "period"], &[0, 5, 6, 7, 8, 9]),
+    row(9, "hash", &["peer", "period"], &[0, 5, 6, 7, 8, 9, 13]),
+    row(10, "hear", &["peer", "item"], &[0, 5, 6, 7, 8, 9, 10]),
+    row(11, "back", &["peer"], &[0, 5, 6, 7, 8, 9, 12, 13]),
+    row(12, "publish", &["item"], &[0, 5, 10, 12, 13]),
+    row(13, "false signature", &["peer", "period", "item"], &[0, 5, 6, 7, 10]),
+    row(14, "false share", &["peer", "period", "item"], &[0, 5, 6, 7, 10]),
+    row(15, "false hash", &["peer", "period", "board"], &[0, 5, 6, 7, 10, 13]),
+    row(16, "false backing", &["peer", "period", "board"], &[0, 5, 6, 7, 10, 13]),
+    row(17, "down", &["peer"], &[0, 5, 6, 7]),
+    row(18, "up", &["peer"], &[0, 5, 6, 7]),
 ];
 
-/// The answers that document 01's table gives each op; the first row is for
-/// bytes that are no step: another length, or another op.
-const ANSWERS: [&[usize]; 19] = [
-    &[5],
-    &[0, 5, 6],
-    &[0, 5, 6, 7, 8, 9, 10, 11],
-    &[0, 5, 6, 7, 8, 9, 10],
-    &[0, 5, 6, 7, 8, 9, 10],
-    &[0, 5, 6, 7, 8, 9, 12],
-    &[0, 5, 6, 12],
-    &[0, 5, 6, 7, 8, 9],
-    &[0, 5, 6, 7, 8, 9],
-    &[0, 5, 6, 7, 8, 9, 13],
-    &[0, 5, 6, 7, 8, 9, 10],
-    &[0, 5, 6, 7, 8, 9, 12, 13],
-    &[0, 5, 10, 12, 13],
-    &[0, 5, 6, 7, 10],
-    &[0, 5, 6, 7, 10],
-    &[0, 5, 6, 7, 10, 13],
-    &[0, 5, 6, 7, 10, 13],
-    &[0, 5, 6, 7],
-    &[0, 5, 6, 7],
-];
+/// The row of an op; the first one if there is no such op.
+pub fn row_of(op: u8) -> &'static Row {
+    ROWS.iter().find(|row| row.op == op).unwrap_or(&ROWS[0])
+}
+
+/// The number of the last op.
+pub fn last_op() -> u8 {
+    ROWS[ROWS.len() - 1].op
+}
 
 /// How often each op got each answer.
 #[derive(Default)]
-pub struct Answers([[usize; 16]; 19]);
+pub struct Answers(BTreeMap<(u8, u8), usize>);
 
 impl Answers {
     pub fn count(&mut self, step: &[u8], answer: u8) {
-        let is_step = step.len() == STEP_LENGTH && (1..=18).contains(&step[0]);
-        let op = if is_step { step[0] as usize } else { 0 };
-        self.0[op][answer as usize] += 1;
+        let op = if step.len() == STEP_LENGTH { row_of(step[0]).op } else { 0 };
+        *self.0.entry((op, answer)).or_default() += 1;
     }
 
     pub fn count_all(&mut self, rehearsed: &Rehearsed) {
@@ -67,35 +69,44 @@ impl Answers {
     }
 
     pub fn calls(&self) -> usize {
-        self.0.iter().flatten().sum()
+        self.0.values().sum()
+    }
+
+    /// How often any op got the answer.
+    pub fn times(&self, answer: u8) -> usize {
+        self.0.iter().filter(|(key, _)| key.1 == answer).map(|(_, times)| times).sum()
+    }
+
+    fn of(&self, op: u8, answer: u8) -> usize {
+        self.0.get(&(op, answer)).copied().unwrap_or(0)
     }
 
     /// What was never answered although it can be, and the reverse.
     pub fn wrong(&self) -> Vec<String> {
-        let pairs = (0..19).flat_map(|op| (0..16).map(move |answer| (op, answer)));
-        let differs = |(op, answer): &(usize, usize)| {
-            (self.0[*op][*answer] > 0) != ANSWERS[*op].contains(answer)
+        let rows = ROWS.iter().flat_map(|row| row.answers.iter().map(|answer| (row.op, *answer)));
+        let possible: BTreeSet<(u8, u8)> = rows.collect();
+        let given: BTreeSet<(u8, u8)> = self.0.keys().copied().collect();
+        let line = |(op, answer): &(u8, u8)| {
+            let (name, times) = (row_of(*op).name, self.of(*op, *answer));
+            format!("op {op}, {name}: answer {answer}, {times} times")
         };
-        let line = |(op, answer): (usize, usize)| {
-            format!("op {op}, {}: answer {answer}, {} times", OPS[op], self.0[op][answer])
-        };
-        pairs.filter(differs).map(line).collect()
+        possible.symmetric_difference(&given).map(line).collect()
     }
 }
 
 /// A row for each op; a dot where document 01 has no such answer.
 impl fmt::Display for Answers {
     fn fmt(&self, f: &mut fmt::Formatter) -> fmt::Result {
-        let columns = || [0].into_iter().chain(5..=13);
-        let head: String = columns().map(|answer| format!("{answer:>8}")).collect();
+        let columns: BTreeSet<u8> = ROWS.iter().flat_map(|row| row.answers).copied().collect();
+        let head: String = columns.iter().map(|answer| format!("{answer:>8}")).collect();
         writeln!(f, "{:<18}{head}", "op / answer")?;
-        for (op, row) in self.0.iter().enumerate() {
-            let cell = |answer| match row[answer] {
-                0 if !ANSWERS[op].contains(&answer) => format!("{:>8}", "."),
+        for row in ROWS {
+            let cell = |answer: &u8| match self.of(row.op, *answer) {
+                0 if !row.answers.contains(answer) => format!("{:>8}", "."),
                 times => format!("{times:>8}"),
             };
-            let cells: String = columns().map(cell).collect();
-            writeln!(f, "{op:>2} {:<15}{cells}", OPS[op])?;
+            let cells: String = columns.iter().map(cell).collect();
+            writeln!(f, "{:>2} {:<15}{cells}", row.op, row.name)?;
         }
         Ok(())
     }

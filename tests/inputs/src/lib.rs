@@ -5,6 +5,8 @@
 //! - `steps`: steps of which many are taken
 //! - `making`: a rehearsal in the making, with the reference's state alongside
 //! - `period`: periods that go well, and lies that fill the bag
+//! - `protocol`: long rehearsals in which nearly everything is taken
+//! - `bursts`: runs in bursts, shuffled, repeated and lost
 //! - `rehearsed`: a rehearsal with what the reference makes of it
 //! - `runs`, `wide`, `odd`: rehearsals in the protocol's shape, those with the
 //!   most to report, and those that are refused
@@ -13,10 +15,12 @@
 //! - `stored`: the rehearsals that are stored, with their reports
 
 pub mod answers;
+mod bursts;
 pub mod kinds;
 pub mod making;
 mod odd;
 pub mod period;
+pub mod protocol;
 pub mod random;
 pub mod rehearsed;
 mod runs;

@@ -1,9 +1,9 @@
 //! A rehearsal in the making, with the reference's state alongside.
 
 use crate::random::Random;
-use crate::steps::random_steps;
+use crate::steps::{liars, random_steps};
 use reference::form::{write_step, Step, STEP_LENGTH};
-use reference::state::State;
+use reference::state::{Entry, State};
 use reference::step::step;
 use reference::table::{read_table, Table};
 
@@ -23,11 +23,16 @@ impl<'a> Making<'a> {
         Making { random, text, table, state, steps: Vec::new() }
     }
 
+    /// One call more, with any bytes. As a part of an input they must be 13.
+    pub fn call_any(&mut self, bytes: Vec<u8>) {
+        step(&self.table, &mut self.state, &bytes);
+        self.steps.push(bytes);
+    }
+
     /// One step more, cut or filled up to 13 bytes.
     pub fn call(&mut self, mut bytes: Vec<u8>) {
         bytes.resize(STEP_LENGTH, 0);
-        step(&self.table, &mut self.state, &bytes);
-        self.steps.push(bytes);
+        self.call_any(bytes);
     }
 
     /// These steps, in any order.
@@ -47,6 +52,19 @@ impl<'a> Making<'a> {
             let steps = random_steps(self.random, &self.table, &self.state);
             steps.into_iter().take(room).for_each(|step| self.call(step));
         }
+    }
+
+    pub fn honest(&self) -> Vec<usize> {
+        self.table.honest.iter().copied().collect()
+    }
+
+    pub fn liars(&self) -> Vec<usize> {
+        liars(&self.table)
+    }
+
+    /// The numbers of the entries that are so.
+    pub fn entries(&self, is: impl Fn(&Entry) -> bool) -> Vec<usize> {
+        (0..self.state.bag.len()).filter(|e| is(&self.state.bag[*e])).collect()
     }
 
     pub fn input(self) -> Vec<u8> {

@@ -9,10 +9,6 @@ use reference::state::{Entry, BAG_SIZE};
 use reference::table::Table;
 
 impl Making<'_> {
-    pub fn honest(&self) -> Vec<usize> {
-        self.table.honest.iter().copied().collect()
-    }
-
     /// At most so many items, of which no two clash.
     pub fn fair_items(&self, most: usize) -> Vec<usize> {
         let mut fair: Vec<usize> = Vec::new();
@@ -66,17 +62,13 @@ impl Making<'_> {
         self.together(backings.into_iter().map(|entry| Step::Publish { entry }));
     }
 
-    fn entries(&self, is: fn(&Entry) -> bool) -> Vec<usize> {
-        (0..self.state.bag.len()).filter(|e| is(&self.state.bag[*e])).collect()
-    }
-
     /// The bag fills when all but one have backed the board, and before it is
     /// published: then every step that would enter something is refused.
     fn fill(&mut self) {
         let items = self.fair_items(2);
         self.gather(0, &items);
         self.agree(0);
-        let (honest, liars) = (self.honest(), liars(&self.table));
+        let (honest, liars) = (self.honest(), self.liars());
         self.back(&honest[1..]);
         let board = bits(&self.state.peer(honest[0]).board(0, self.table.t));
         let lie = |period, board| {

@@ -43,6 +43,11 @@ impl Random {
         self.below(times) == 0
     }
 
+    /// True so many times in a hundred.
+    pub fn chance(&mut self, percent: usize) -> bool {
+        self.below(100) < percent
+    }
+
     /// One of those given, if there are any.
     pub fn pick<T>(&mut self, from: impl Iterator<Item = T>) -> Option<T> {
         let mut all: Vec<T> = from.collect();
@@ -54,6 +59,16 @@ impl Random {
         for k in (1..list.len()).rev() {
             list.swap(k, self.below(k + 1));
         }
+    }
+
+    /// The things in the order in which they are drawn from all of them.
+    pub fn drawn<T>(&mut self, things: impl Iterator<Item = T>) -> Vec<T> {
+        let mut rest: Vec<T> = things.collect();
+        let mut drawn = Vec::new();
+        while !rest.is_empty() {
+            drawn.push(rest.swap_remove(self.below(rest.len())));
+        }
+        drawn
     }
 
     pub fn bytes(&mut self, length: usize) -> Vec<u8> {

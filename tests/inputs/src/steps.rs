@@ -1,5 +1,6 @@
 //! Random steps, of which many are taken.
 
+use crate::answers::{last_op, row_of};
 use crate::random::Random;
 use reference::form::{bits, write_step, Step};
 use reference::state::{Entry, State};
@@ -64,15 +65,11 @@ fn malformed(random: &mut Random, mut step: Vec<u8>) -> Vec<u8> {
 
 /// Whether an op names peer, other, period and item (or entry).
 fn fields(op: u8) -> [bool; 4] {
-    let peer = ![1, 6, 12].contains(&op);
-    let other = [4, 8].contains(&op);
-    let period = [4, 6, 8, 9, 13, 14, 15, 16].contains(&op);
-    let item = ![7, 8, 9, 11, 15, 16, 17, 18].contains(&op);
-    [peer, other, period, item]
+    ["peer", "other", "period", "item"].map(|field| row_of(op).fields.contains(&field))
 }
 
 fn has_board(op: u8) -> bool {
-    op == 15 || op == 16
+    row_of(op).fields.contains(&"board")
 }
 
 /// The places of the bytes that are 0 in every step of an op.
@@ -83,8 +80,8 @@ fn unused(op: u8) -> Vec<usize> {
 }
 
 /// Any op, with its fields anywhere in range or one beyond.
-fn uniform(random: &mut Random, table: &Table) -> Vec<u8> {
-    let op = random.between(1, 18) as u8;
+pub fn uniform(random: &mut Random, table: &Table) -> Vec<u8> {
+    let op = random.between(1, last_op() as usize) as u8;
     let ends = [table.n + 1, table.n + 1, table.periods, table.m()];
     let mut step = vec![op];
     for (named, end) in fields(op).into_iter().zip(ends) {

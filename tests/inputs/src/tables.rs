@@ -31,13 +31,19 @@ impl Shape {
         write_table(self.n as u8, t as u8, honest, self.periods as u8, &items)
     }
 
-    /// The same, with at least t honest peers, and so many liars if that
-    /// leaves t.
+    /// The same with the least threshold, at least so many honest peers, and so
+    /// many liars if that leaves enough.
     pub fn honest_table(self, random: &mut Random, liars: usize) -> Vec<u8> {
         let t = LEAST_THRESHOLD[self.n - 1];
+        let liars = liars.min(self.n - t);
+        self.table_with(random, t, liars)
+    }
+
+    /// The same with this threshold and so many liars.
+    pub fn table_with(self, random: &mut Random, t: usize, liars: usize) -> Vec<u8> {
         let mut peers: Vec<usize> = (0..self.n).collect();
         random.shuffle(&mut peers);
-        let honest = peers[liars.min(self.n - t)..].iter().fold(0, |set, k| set | 1 << k);
+        let honest = peers[liars..].iter().fold(0, |set, k| set | 1 << k);
         let items = random_items(random, self.m);
         write_table(self.n as u8, t as u8, honest, self.periods as u8, &items)
     }

@@ -7,7 +7,7 @@ use crate::table::{read_front, Table};
 use crate::Refusal;
 
 /// The most bytes that a rehearsal takes.
-const INPUT_SIZE: usize = 65_536;
+pub const INPUT_SIZE: usize = 65_536;
 
 /// The whole output for a rehearsal input.
 pub fn rehearse(input: &[u8]) -> Vec<u8> {

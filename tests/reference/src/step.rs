@@ -12,10 +12,15 @@ use std::collections::BTreeSet;
 
 /// A step call with any bytes: its answer. A refused call alters nothing.
 pub fn step(table: &Table, state: &mut State, bytes: &[u8]) -> u8 {
-    match read_step(bytes).and_then(|step| run(table, state, step)) {
+    match call(table, state, bytes) {
         Ok(()) => 0,
         Err(refusal) => refusal.number(),
     }
+}
+
+/// The same, with the refusal by its name.
+pub fn call(table: &Table, state: &mut State, bytes: &[u8]) -> Result<(), Refusal> {
+    run(table, state, read_step(bytes)?)
 }
 
 fn run(table: &Table, state: &mut State, step: Step) -> Done {

@@ -4,8 +4,8 @@ use Rattle.ballot.specs.Table.{itemOk}
 use Rattle.ballot.proofs.item_ok.Statement.{statement}
 use Rattle.ballot.proofs.item_ok.Tie as tie
 
-item-text-requires : tie.Need-item-text-requires
-item-text-requires c κs = search needs
+item-at-requires : tie.Need-item-at-requires
+item-at-requires c κs = search needs
 
 read-item-requires : tie.Need-read-item-requires
 read-item-requires c κs = search needs
@@ -15,7 +15,7 @@ reading-number-requires c κs = search needs
 
 returns : tie.Need-returns
 unfolding itemOk
-returns c = simp (c .reading-number .ensures, c .before .read-item .ensures, c .before .before .item-text .ensures)
+returns c = simp (c .reading-number .ensures, c .before .read-item .ensures, c .before .before .item-at .ensures)
 
 pub item-ok-spec : {M : Type 1} → statement M
-item-ok-spec = tie.close (tie.spec item-text-requires read-item-requires reading-number-requires returns)
+item-ok-spec = tie.close (tie.spec item-at-requires read-item-requires reading-number-requires returns)

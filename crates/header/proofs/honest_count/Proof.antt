@@ -34,7 +34,8 @@ loop-less c = omega arith
 loop-again : tie.Need-loop-again Inv-loop μ-loop
 loop-again c =
     let l = c .before .before .before .loop in
-    let one-more = count-in (isHonest (c .before .before .before .before .args .h)) (l .k) (sym (c .before .is-honest .ensures) ∙ c .if1 .taken) in
+    let honest = isHonest (c .before .before .before .before .args .h) in
+    let one-more = count-in honest (l .k) (sym (c .before .is-honest .ensures) ∙ c .if1 .taken) in
     omega arith
 
 loop-less-2 : tie.Need-loop-less-2 Inv-loop μ-loop
@@ -43,7 +44,8 @@ loop-less-2 c = omega arith
 loop-again-2 : tie.Need-loop-again-2 Inv-loop μ-loop
 loop-again-2 c =
     let l = c .before .before .before .loop in
-    let no-more = count-out (isHonest (c .before .before .before .before .args .h)) (l .k) (sym (c .before .is-honest .ensures) ∙ c .if1 .left) in
+    let honest = isHonest (c .before .before .before .before .args .h) in
+    let no-more = count-out honest (l .k) (sym (c .before .is-honest .ensures) ∙ c .if1 .left) in
     omega arith
 
 returns : tie.Need-returns Inv-loop μ-loop

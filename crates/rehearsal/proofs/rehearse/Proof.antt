@@ -15,23 +15,36 @@ put-refused-requires c κs = search needs
 same-length : tie.Need-same-length
 same-length c = search needs
 
+same-length-2 : tie.Need-same-length-2
+same-length-2 c = search needs
+
 returns : tie.Need-returns
-returns c = ?
+returns c =
+    let line = c .before .before in
+    let judged = line .before .before .before in
+    refused _ _ _ (judged .check-lent .ensures) (line .before .before .if1 .taken) (line .put-refused .ensures) refl
 
 table-in-requires : tie.Need-table-in-requires
 table-in-requires c κs = search needs
 
 play-requires : tie.Need-play-requires
-play-requires c κs = ?
-
-same-length-2 : tie.Need-same-length-2
-same-length-2 c = search needs
+play-requires c κs =
+    let table = c .before .before in
+    let judged = table .before .before in
+    let passed = both-passed _ _ (sym (judged .check-lent .ensures) ∙ table .before .if1 .left) in
+    (taken _ (passed .0), table .table-in .ensures, passed .1)
 
 same-length-3 : tie.Need-same-length-3
 same-length-3 c = search needs
 
+same-length-4 : tie.Need-same-length-4
+same-length-4 c = search needs
+
 returns-2 : tie.Need-returns-2
-returns-2 c = ?
+returns-2 c =
+    let play = c .before .before .before .before in
+    let judged = play .before .before .before .before .before in
+    reports _ _ _ (judged .check-lent .ensures) (play .before .before .before .before .if1 .left) (play .play .ensures)
 
 pub rehearse-spec : {M : Type 1} → statement M
 rehearse-spec =
@@ -40,9 +53,10 @@ rehearse-spec =
     check-lent-requires
     put-refused-requires
     same-length
+    same-length-2
     returns
     table-in-requires
     play-requires
-    same-length-2
     same-length-3
+    same-length-4
     returns-2)

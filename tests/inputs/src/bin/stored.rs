@@ -1,5 +1,5 @@
 //! Writes the stored rehearsals and their reports, `stdin` and `stdout`, to the
-//! folder given: `cargo run --release ../../crates/stored`.
+//! folder given: `cargo run --release --bin stored crates/stored`.
 
 use std::path::Path;
 use std::{env, fs};

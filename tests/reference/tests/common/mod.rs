@@ -1,8 +1,5 @@
-//! Helpers of the tests: tables from parts, runs, a small random generator.
+//! Helpers of the tests: tables from parts, and runs.
 #![allow(dead_code)]
-
-pub mod bursts;
-pub mod random_runs;
 
 use reference::form::{write_step, Step};
 use reference::state::State;
@@ -97,40 +94,4 @@ pub fn hashed_by_three() -> Run {
         run.done(&[Step::Close { peer }, Step::Hash { peer, period: 0 }]);
     }
     run
-}
-
-/// A xorshift generator with a fixed seed.
-pub struct Random(u64);
-
-impl Random {
-    pub fn new(seed: u64) -> Random {
-        Random(seed.wrapping_mul(0x9E37_79B9_7F4A_7C15) | 1)
-    }
-
-    pub fn next(&mut self) -> u64 {
-        self.0 ^= self.0 << 13;
-        self.0 ^= self.0 >> 7;
-        self.0 ^= self.0 << 17;
-        self.0
-    }
-
-    /// A number below the bound, which is not 0.
-    pub fn below(&mut self, bound: usize) -> usize {
-        ((self.next() >> 11) % bound as u64) as usize
-    }
-
-    pub fn between(&mut self, low: usize, high: usize) -> usize {
-        low + self.below(high - low + 1)
-    }
-
-    /// True so many times in a hundred.
-    pub fn chance(&mut self, percent: usize) -> bool {
-        self.below(100) < percent
-    }
-
-    pub fn shuffle<T>(&mut self, list: &mut [T]) {
-        for k in (1..list.len()).rev() {
-            list.swap(k, self.below(k + 1));
-        }
-    }
 }

@@ -1,6 +1,6 @@
--- `hand_out` meets its contract: a walk of its code, by hand. The struct is taken apart, and `item_below` is called on the slice and the numbers.
--- The struct is Copy: what it owns is had twice. One copy is kept whole for the exit. Of the other, what `table` owns goes to the callee, beside the
--- lifetime's token, which comes back. What the result owns is what the callee gives. Of the callee only its contract is known.
+-- `hand_out` meets its contract: a walk of its code, by hand. The struct is taken apart, and `item_below` is called on its fields.
+-- The struct is Copy: what it owns is had twice. One copy is kept whole for the exit. Of the other, what `table` owns goes to the callee,
+-- beside the lifetime's token, which comes back. What the result owns is what the callee gives. Of the callee only its contract is known.
 use mathlib.Core.Path.{_≡_, refl}
 use Prim.Native.Nat.{ℕ, _<_, _^_}
 use mathlib.Core.List.{List, [], _∷_}
@@ -44,7 +44,7 @@ use denote.Triple.Table.{entered, cited}
 use denote.Triple.Walked.{says, Stays, stay-none, walkOf, goes-none, Walks, ends-at, walked, walk-meets}
 use denote.Exit.{yes}
 use denote.Triple.Clauses.{ensured, lasts}
-use Rattle.ballot.specs.Reader.{itemBelow}
+use Rattle.ballot.specs.Table.{itemBelow}
 use Rattle.ballot.specs.declared.reader.Reader.{Reader}
 use Rattle.ballot.proofs.reader.Reader as T
 use Rattle.ballot.proofs.reader.Reader.Laws as T′

@@ -1,6 +1,6 @@
--- `over` meets its contract: a walk of its code, by hand. `items` is called on the table, and a `Reader` is made of the table and the number that it
--- returns. A `&[u8]` is Copy, so what it owns is had as often as it is wanted: for the callee, for `table` at exit, and inside the result.
--- Of the callee only its contract is known.
+-- `over` meets its contract: a walk of its code, by hand. `items` is called on the table, and a `Reader` is made of the table and
+-- the number that it returns. A `&[u8]` is Copy, so what it owns is had as often as it is wanted: for the callee, for `table` at exit, and
+-- inside the result. Of the callee only its contract is known.
 use mathlib.Core.Path.{_≡_, refl, ap}
 use Prim.Native.Nat.{ℕ, _<_, _^_}
 use mathlib.Core.List.{List, [], _∷_}

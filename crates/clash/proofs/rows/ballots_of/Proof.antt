@@ -1,14 +1,13 @@
--- The ballots of the first k items are made, by `made-more`.
+-- The ballots of the first k items are made, by `one-ballot`; the rest are zeros.
 use Prim.Native.Nat.{_-_}
 use native.Mathlib.Omega.{arith}
 use borrow.Author.Needs.{needs}
-use Rattle.clash.specs.Clash.{ballotAt}
-use Rattle.clash.proofs.Made.{Made, made-none, made-more, ballots-made}
+use Rattle.clash.proofs.Made.{BallotsTo, no-ballots, one-ballot, ballots-made}
 use Rattle.clash.proofs.rows.ballots_of.Statement.{statement}
 use Rattle.clash.proofs.rows.ballots_of.Tie as tie
 
 abbrev Inv-loop : tie.InvT-loop
-Inv-loop table width ballots₀ k₀ ballots k = Made (ballotAt table) ballots k
+Inv-loop table width ballots₀ k₀ ballots k = BallotsTo table k ballots
 
 abbrev μ-loop : tie.MeasureT-loop
 μ-loop table width ballots₀ k₀ ballots k = width - k
@@ -17,7 +16,7 @@ mask-width-requires : tie.Need-mask-width-requires Inv-loop μ-loop
 mask-width-requires c κs = search needs
 
 loop-holds : tie.Need-loop-holds Inv-loop μ-loop
-loop-holds c = made-none _
+loop-holds c = no-ballots _
 
 ballot-at-requires : tie.Need-ballot-at-requires Inv-loop μ-loop
 ballot-at-requires c κs = search needs
@@ -38,7 +37,7 @@ loop-less : tie.Need-loop-less Inv-loop μ-loop
 loop-less c = search needs
 
 loop-again : tie.Need-loop-again Inv-loop μ-loop
-loop-again c = made-more _ _ _ (c .before .before .loop .inv) (omega arith) (c .ballot-at .ensures)
+loop-again c = one-ballot _ _ _ (c .before .before .loop .inv) (omega arith) (c .ballot-at .ensures)
 
 returns : tie.Need-returns Inv-loop μ-loop
 returns c = search ballots-made

@@ -1,13 +1,15 @@
--- The first i rows are made, by `made-more`.
+-- The first i rows are made, by `filled-more`.
 use Prim.Native.Nat.{_-_}
 use borrow.Author.Needs.{needs}
 use Rattle.clash.specs.Clash.{clashMask}
-use Rattle.clash.proofs.Made.{Made, made-none, made-more, rows-made}
+use Rattle.base.specs.Tab.{FilledTo}
+use Rattle.base.proofs.Tab.{filled-more}
+use Rattle.clash.proofs.Made.{none-made, rows-made}
 use Rattle.clash.proofs.rows.clash_rows.Statement.{statement}
 use Rattle.clash.proofs.rows.clash_rows.Tie as tie
 
 abbrev Inv-loop : tie.InvT-loop
-Inv-loop table ballots rows₀ i₀ rows i = Made (clashMask table) rows i
+Inv-loop table ballots rows₀ i₀ rows i = FilledTo 0 64 (clashMask table) i rows
 
 abbrev μ-loop : tie.MeasureT-loop
 μ-loop table ballots rows₀ i₀ rows i = 64 - i
@@ -16,7 +18,7 @@ ballots-of-requires : tie.Need-ballots-of-requires Inv-loop μ-loop
 ballots-of-requires c κs = search needs
 
 loop-holds : tie.Need-loop-holds Inv-loop μ-loop
-loop-holds c = made-none _
+loop-holds c = none-made _
 
 mask-by-requires : tie.Need-mask-by-requires Inv-loop μ-loop
 mask-by-requires c κs = search needs
@@ -37,7 +39,7 @@ loop-less : tie.Need-loop-less Inv-loop μ-loop
 loop-less c = search needs
 
 loop-again : tie.Need-loop-again Inv-loop μ-loop
-loop-again c = search made-more
+loop-again c = search filled-more
 
 returns : tie.Need-returns Inv-loop μ-loop
 returns c = search rows-made

@@ -15,7 +15,7 @@ returns : tie.Need-returns
 returns c =
     let read = c .before in
     let asked = read .before .before .pre in
-    clash-other _ _ _ (asked .1) (ballot-read (asked .0) (asked .2)) (c .if1 .taken)
+    clash-other _ _ _ (asked .1) (ballot-read _ (asked .0) (asked .2)) (c .if1 .taken)
 
 clash-in-requires : tie.Need-clash-in-requires
 clash-in-requires c κs = search needs

@@ -5,10 +5,10 @@ use mathlib.Core.List.{[]}
 use mathlib.Core.Path.{refl}
 use borrow.Author.Needs.{needs}
 use Rattle.state.specs.Layout.{periods}
-use Rattle.state.specs.Tab.{FilledTo}
+use Rattle.base.specs.Tab.{FilledTo}
 use Rattle.state.specs.Contents.{contents}
 use Rattle.sets.specs.Database.{rowOf, databaseOf}
-use Rattle.state.proofs.Tab.{filled-none, filled-more, filled-all}
+use Rattle.base.proofs.Tab.{filled-none, filled-more, filled-all}
 use Rattle.sets.proofs.database.database.Statement.{statement}
 use Rattle.sets.proofs.database.database.Tie as tie
 

@@ -4,11 +4,11 @@ use native.Mathlib.Omega.{arith}
 use mathlib.Core.Path.{refl}
 use borrow.Author.Needs.{needs}
 use Rattle.state.specs.Layout.{items}
-use Rattle.state.specs.Tab.{FilledTo}
+use Rattle.base.specs.Tab.{FilledTo}
 use Rattle.state.specs.Contents.{contents}
 use Rattle.state.specs.Sets.{signersOf}
 use Rattle.sets.specs.Database.{rowOf}
-use Rattle.state.proofs.Tab.{filled-none, filled-more, filled-all}
+use Rattle.base.proofs.Tab.{filled-none, filled-more, filled-all}
 use Rattle.sets.proofs.database.row.Statement.{statement}
 use Rattle.sets.proofs.database.row.Tie as tie
 

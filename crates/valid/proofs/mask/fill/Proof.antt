@@ -3,7 +3,7 @@ use Prim.Native.Nat.{_≤_, _-_}
 use native.Mathlib.Omega.{arith}
 use lib.ListN.{length}
 use borrow.Author.Needs.{needs}
-use Rattle.state.specs.Tab.{FilledTo}
+use Rattle.base.specs.Tab.{FilledTo}
 use Rattle.valid.specs.Rows.{first, inRows, byteOf}
 use Rattle.valid.proofs.Masks.{mask-none, mask-more, mask-all}
 use Rattle.valid.proofs.mask.fill.Statement.{statement}

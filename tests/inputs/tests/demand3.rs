@@ -1,0 +1,227 @@
+//! Demand 3 on random runs: the posts, receipts and boards held outside are
+//! those of the ideal board, every move of which was allowed.
+
+use inputs::making::Making;
+use inputs::random::Random;
+use inputs::tables::Shape;
+use reference::form::{read_step, Step};
+use reference::ideal::{reaches_honest_share, IdealBoard};
+use reference::state::State;
+use reference::step::step;
+use reference::table::Table;
+use std::collections::{BTreeMap, BTreeSet};
+
+const RUNS: usize = 10_000;
+
+/// A run with what it came to, on the reference and on the ideal board.
+struct Run {
+    table: Table,
+    state: State,
+    ideal: IdealBoard,
+    /// Every call with its answer.
+    calls: Vec<(Vec<u8>, u8)>,
+}
+
+impl Run {
+    /// A random run on a table of so many peers.
+    fn random(number: usize, n: usize, t: usize, honest: usize, bursts: usize) -> Run {
+        let mut random = Random::new(SEED, number);
+        let shape = Shape { n, periods: random.between(1, 3), m: random.between(1, 9) };
+        let text = shape.table_with(&mut random, t, n - honest);
+        let mut making = Making::on(&mut random, text);
+        making.run_in_bursts(bursts);
+        Run::of(making.table, making.steps)
+    }
+
+    fn of(table: Table, steps: Vec<Vec<u8>>) -> Run {
+        let (state, ideal) = (State::fresh(&table), IdealBoard::new(&table));
+        let mut run = Run { table, state, ideal, calls: Vec::new() };
+        steps.into_iter().for_each(|bytes| run.call(bytes));
+        run
+    }
+
+    /// One step call; the ideal board is fed what document 01 lets it see.
+    /// Now and then the state is kept, to see that a refusal alters nothing.
+    fn call(&mut self, bytes: Vec<u8>) {
+        let backing = match read_step(&bytes) {
+            Ok(Step::Publish { entry }) => self.state.backing(entry),
+            _ => None,
+        };
+        let before = self.calls.len().is_multiple_of(20).then(|| self.state.clone());
+        let answer = step(&self.table, &mut self.state, &bytes);
+        assert!(answer == 0 || before.is_none_or(|state| state == self.state));
+        let told = backing.filter(|_| answer == 0);
+        self.ideal.feed(&self.table, &bytes, answer, told);
+        self.calls.push((bytes, answer));
+    }
+}
+
+/// The runs are the same ones each time.
+const SEED: u64 = 3;
+
+/// A run under the premise: t honest peers of n, and 3t > 2n.
+fn run_under_premise(number: usize) -> Run {
+    let mut random = Random::new(!SEED, number);
+    let most = if random.chance(10) { 16 } else { 6 };
+    let n = random.between(1, most);
+    let t = random.between(2 * n / 3 + 1, n);
+    let honest = random.between(t, n);
+    Run::random(number, n, t, honest, random.between(5, 30))
+}
+
+/// The single claim: equal posts, receipts and boards, every move allowed.
+fn equals_ideal_board(run: &Run) -> bool {
+    run.ideal.all_allowed
+        && run.ideal.posts == run.state.posted
+        && run.ideal.receipts == run.state.receipts
+        && run.ideal.boards == run.state.boards()
+}
+
+#[test]
+fn the_ideal_board_on_random_runs() {
+    let mut tally = Tally::default();
+    for number in 0..RUNS {
+        let run = run_under_premise(number);
+        assert!(equals_ideal_board(&run), "run {number}");
+        no_clash_outside(&run);
+        one_board_a_period(&run);
+        receipted_items_are_on_the_board(&run);
+        board_items_are_posted_and_signed(&run);
+        boards_stand_unchanged(&run);
+        tally.add(&run);
+    }
+    println!("{tally:?}");
+    tally.shows_enough();
+}
+
+/// No two clashing items among all receipts and published boards.
+fn no_clash_outside(run: &Run) {
+    let mut items: BTreeSet<usize> = run.state.receipts.iter().map(|(_, item)| *item).collect();
+    for (_, board) in run.state.boards() {
+        items.extend(board);
+    }
+    for x in &items {
+        assert!(!items.iter().any(|y| run.table.clash(*x, *y)));
+    }
+}
+
+fn one_board_a_period(run: &Run) {
+    let boards = run.state.boards();
+    let periods: BTreeSet<usize> = boards.iter().map(|(period, _)| *period).collect();
+    assert_eq!(periods.len(), boards.len());
+}
+
+fn receipted_items_are_on_the_board(run: &Run) {
+    for (period, board) in run.state.boards() {
+        for (_, item) in run.state.receipts.iter().filter(|(q, _)| *q == period) {
+            assert!(board.contains(item));
+        }
+    }
+}
+
+/// By at least t + h − n of the h honest peers, in that period.
+fn board_items_are_posted_and_signed(run: &Run) {
+    for (period, board) in run.state.boards() {
+        for item in board {
+            assert!(run.ideal.posts.contains(&item));
+            assert!(reaches_honest_share(&run.table, run.ideal.honest_signers(period, item)));
+        }
+    }
+}
+
+/// The same calls once more: the same answers, and after each of them the
+/// boards are the first ones of those at the end.
+fn boards_stand_unchanged(run: &Run) {
+    let last = run.state.boards();
+    let mut state = State::fresh(&run.table);
+    for (bytes, answer) in &run.calls {
+        assert_eq!(step(&run.table, &mut state, bytes), *answer);
+        if bytes.first() == Some(&12) {
+            assert!(last.starts_with(&state.boards()));
+        }
+    }
+    assert_eq!(state, run.state);
+}
+
+/// What the runs held, so that the claims above are not empty.
+#[derive(Debug, Default)]
+struct Tally {
+    steps: usize,
+    answers: BTreeMap<u8, usize>,
+    receipts: usize,
+    boards: usize,
+    items_on_boards: usize,
+    runs_with_receipt_after_board: usize,
+    runs_with_clash_refused_in_a_later_period: usize,
+}
+
+impl Tally {
+    fn add(&mut self, run: &Run) {
+        self.steps += run.calls.len();
+        for (_, answer) in &run.calls {
+            *self.answers.entry(*answer).or_default() += 1;
+        }
+        let boards = run.state.boards();
+        self.receipts += run.state.receipts.len();
+        self.boards += boards.len();
+        self.items_on_boards += boards.iter().map(|(_, board)| board.len()).sum::<usize>();
+        self.runs_with_receipt_after_board += receipt_after_board(run) as usize;
+        self.runs_with_clash_refused_in_a_later_period += late_clash(run) as usize;
+    }
+
+    fn shows_enough(&self) {
+        for answer in [0, 5, 6, 7, 8, 9, 10, 11, 12, 13] {
+            assert!(self.answers[&answer] > 1000, "answer {answer}");
+        }
+        assert!(self.receipts > 5000);
+        assert!(self.boards > 3000);
+        assert!(self.items_on_boards > 2000);
+        assert!(self.runs_with_receipt_after_board > 100);
+        assert!(self.runs_with_clash_refused_in_a_later_period > 500);
+    }
+}
+
+/// Whether a receipt was first made after its period's board.
+fn receipt_after_board(run: &Run) -> bool {
+    let mut state = State::fresh(&run.table);
+    for (bytes, _) in &run.calls {
+        let before = state.receipts.clone();
+        step(&run.table, &mut state, bytes);
+        let boards = state.boards();
+        let late = |period| boards.iter().any(|(q, _)| *q == period);
+        if state.receipts.difference(&before).any(|(period, _)| late(*period)) {
+            return true;
+        }
+    }
+    false
+}
+
+/// Whether a hand was refused for a clash with an item of an earlier period.
+fn late_clash(run: &Run) -> bool {
+    let mut state = State::fresh(&run.table);
+    for (bytes, answer) in &run.calls {
+        if *answer == 11 {
+            let peer = state.peer(bytes[1] as usize);
+            let in_open = |held: &(usize, usize)| {
+                held.0 == peer.p && run.table.clash(held.1, bytes[4] as usize)
+            };
+            if !peer.held.iter().any(in_open) {
+                return true;
+            }
+        }
+        step(&run.table, &mut state, bytes);
+    }
+    false
+}
+
+/// The check has teeth: with fewer than t honest peers it fails now and then.
+#[test]
+fn too_few_honest_peers_break_it() {
+    let mut broken = 0;
+    for number in 0..500 {
+        let run = Run::random(number, 4, 3, 2, 25);
+        broken += !equals_ideal_board(&run) as usize;
+    }
+    println!("broken {broken} of 500");
+    assert!(broken > 50);
+}

@@ -1,0 +1,49 @@
+/* What both halves of this test share: tables and steps, made by the names of
+ * include/board.h alone, the state, and the state that is expected. */
+#ifndef MADE_H
+#define MADE_H
+
+#include "board.h"
+
+#include <stdio.h>
+#include <stdlib.h>
+#include <string.h>
+
+/* Ends the program with 1 if the fact does not hold. */
+#define CHECK(fact) check((fact) != 0, #fact, __FILE__, __LINE__)
+void check(int holds, const char *fact, const char *file, int line);
+
+/* The table of most checks: nine peers, of which 4 is dishonest; three periods;
+ * an even item is a vote on a ballot of its own, item 1 a vote that clashes with
+ * item 0, each other odd one an audit or a cancellation. */
+enum { PEERS = 9, THRESHOLD = 7, LIAR = 4, HONEST = 8, PERIODS = 3, ITEMS = 12, ROOM = 65536 };
+
+extern uint8_t table[ROOM], state[ROOM], expected[ROOM];
+extern size_t table_length;
+
+void put_table(void);
+
+/* A header without items behind it, and item k at the table's end. */
+void put_header(int peers, int threshold, int honest, int periods, int items);
+void put_item(int k, int ballot, int kind, int preferences);
+
+/* Makes the state fresh, and expects it so. */
+void start(void);
+
+/* Whether the state, and what stands behind it, is as expected. */
+int as_expected(void);
+
+struct step {
+    int op, peer, other, period, item, entry;
+    uint64_t board;
+};
+
+/* The answer to a step of these fields, by their names; the others are 0. */
+#define STEP(...) answer_of((struct step){__VA_ARGS__})
+uint8_t answer_of(struct step step);
+
+/* The two halves. */
+void check_table_numbers(void);
+void check_state_numbers(void);
+
+#endif

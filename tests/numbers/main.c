@@ -1,0 +1,10 @@
+/* Holds every number of include/board.h but its version to the engine. It exits
+ * with 1 at the first that does not fit. */
+#include "made.h"
+
+int main(void) {
+    check_table_numbers();
+    check_state_numbers();
+    printf("tests/numbers: every number of include/board.h is the engine's\n");
+    return EXIT_SUCCESS;
+}

@@ -1,0 +1,186 @@
+/* Holds the numbers of steps, entries and places in include/board.h to the
+ * engine: after each step the whole state must be the one before it with that
+ * step's bytes changed, at the places that the header gives and docs/STATE.md
+ * explains. */
+#include "made.h"
+
+static int entries;
+
+static void expect_bit(size_t at, size_t bit) {
+    expected[at + bit / 8] |= (uint8_t)(1 << bit % 8);
+}
+
+/* the place of (peer, period, item) among signatures and shares, and of an item of (peer, period) */
+static size_t spot(int k, int p, int i) {
+    return (size_t)((64 * p + i) * 16 + k - 1);
+}
+
+static size_t cell(int j, int p, int i) {
+    return (size_t)((8 * (j - 1) + p) * 64 + i);
+}
+
+static void expect_known(int j, int p, int i, int k) {
+    expect_bit(BOARD_STATE_DATABASES_AT, cell(j, p, i) * 16 + (size_t)k - 1);
+}
+
+static void expect_entry(int kind, int signer, int period, uint64_t board) {
+    uint8_t *entry = expected + BOARD_STATE_BAG_AT + BOARD_ENTRY_LENGTH * entries;
+    entry[BOARD_ENTRY_KIND_AT] = (uint8_t)kind;
+    entry[BOARD_ENTRY_SIGNER_AT] = (uint8_t)signer;
+    entry[BOARD_ENTRY_PERIOD_AT] = (uint8_t)period;
+    for (int i = 0; i < 8; i++) {
+        entry[BOARD_ENTRY_BOARD_AT + i] = (uint8_t)(board >> 8 * i);
+    }
+    entries++;
+    expected[BOARD_STATE_COUNT_AT] = (uint8_t)(entries % 256);
+    expected[BOARD_STATE_COUNT_AT + 1] = (uint8_t)(entries / 256);
+}
+
+/* Item 3 is posted and, in period 1, held and signed by all, taken by peer 2, shared and receipted. */
+static void check_open(void) {
+    for (int item = 0; item < ITEMS; item++) {
+        CHECK(STEP(.op = BOARD_OP_POST, .item = item) == BOARD_DONE);
+        expect_bit(BOARD_STATE_POSTED_AT, (size_t)item);
+        CHECK(as_expected());
+    }
+    for (int j = 1; j <= PEERS; j++) {
+        if (j == LIAR) {
+            CHECK(STEP(.op = BOARD_OP_CLOSE, .peer = j) == BOARD_ROLE);
+            continue;
+        }
+        CHECK(STEP(.op = BOARD_OP_CLOSE, .peer = j) == BOARD_DONE);
+        expected[BOARD_STATE_OPEN_AT + j - 1] = 1;
+        CHECK(as_expected());
+        CHECK(STEP(.op = BOARD_OP_SIGN, .peer = j, .item = 3) == BOARD_UNKNOWN);
+        CHECK(STEP(.op = BOARD_OP_HAND, .peer = j, .item = 3) == BOARD_DONE);
+        expect_bit(BOARD_STATE_HELD_AT, cell(j, 1, 3));
+        CHECK(as_expected());
+        CHECK(STEP(.op = BOARD_OP_SIGN, .peer = j, .item = 3) == BOARD_DONE);
+        expect_bit(BOARD_STATE_SIGNED_AT, spot(j, 1, 3));
+        expect_known(j, 1, 3, j);
+        CHECK(as_expected());
+    }
+}
+
+/* Signatures to every peer, a false one among them; then shares, and at the seventh the receipt. */
+static void check_receipt(void) {
+    CHECK(STEP(.op = BOARD_OP_FALSE_SIGNATURE, .peer = LIAR, .period = 1, .item = 3) == BOARD_DONE);
+    expect_bit(BOARD_STATE_SIGNED_AT, spot(LIAR, 1, 3));
+    CHECK(as_expected());
+    CHECK(STEP(.op = BOARD_OP_TAKE, .peer = 2, .other = 9, .period = 2, .item = 3) == BOARD_PERIOD);
+    CHECK(STEP(.op = BOARD_OP_SHARE, .peer = 2, .item = 3) == BOARD_SHORT);
+    for (int k = 1; k <= PEERS; k++) {
+        CHECK(STEP(.op = BOARD_OP_TAKE, .peer = 2, .other = k, .period = 1, .item = 3) == BOARD_DONE);
+        expect_known(2, 1, 3, k);
+        CHECK(as_expected());
+    }
+    CHECK(STEP(.op = BOARD_OP_SHARE, .peer = 2, .item = 3) == BOARD_DONE);
+    expect_bit(BOARD_STATE_SHARED_AT, spot(2, 1, 3));
+    CHECK(as_expected());
+    CHECK(STEP(.op = BOARD_OP_FALSE_SHARE, .peer = LIAR, .period = 1, .item = 3) == BOARD_DONE);
+    expect_bit(BOARD_STATE_SHARED_AT, spot(LIAR, 1, 3));
+    CHECK(as_expected());
+    for (int j = 5; j <= PEERS; j++) {
+        CHECK(STEP(.op = BOARD_OP_RECEIPT, .period = 1, .item = 3) == BOARD_SHORT);
+        for (int k = 1; k <= PEERS; k++) {
+            CHECK(STEP(.op = BOARD_OP_TAKE, .peer = j, .other = k, .period = 1, .item = 3) == BOARD_DONE);
+            expect_known(j, 1, 3, k);
+        }
+        CHECK(STEP(.op = BOARD_OP_SHARE, .peer = j, .item = 3) == BOARD_DONE);
+        expect_bit(BOARD_STATE_SHARED_AT, spot(j, 1, 3));
+        CHECK(as_expected());
+    }
+    CHECK(STEP(.op = BOARD_OP_RECEIPT, .period = 1, .item = 3) == BOARD_DONE);
+    expect_bit(BOARD_STATE_RECEIPTED_AT, 64 + 3);
+    CHECK(as_expected());
+}
+
+/* Every peer closes period 1 too, and those that took nothing fetch peer 2's database of it. */
+static void check_fetch(void) {
+    for (int j = 1; j <= PEERS; j++) {
+        if (j == LIAR) {
+            continue;
+        }
+        CHECK(STEP(.op = BOARD_OP_CLOSE, .peer = j) == BOARD_DONE);
+        expected[BOARD_STATE_OPEN_AT + j - 1] = 2;
+        CHECK(as_expected());
+    }
+    for (int j = 1; j <= 3; j += 2) {
+        CHECK(STEP(.op = BOARD_OP_FETCH, .peer = j, .other = 2, .period = 1) == BOARD_DONE);
+        for (int k = 1; k <= PEERS; k++) {
+            expect_known(j, 1, 3, k);
+        }
+        CHECK(as_expected());
+    }
+}
+
+/* The board of a period, sent by every honest peer, heard by every one, backed and published. */
+static void check_board(int period, uint64_t board) {
+    int first = entries, backing = 0;
+    for (int j = 1; j <= PEERS; j++) {
+        if (j != LIAR) {
+            CHECK(STEP(.op = BOARD_OP_HASH, .peer = j, .period = period) == BOARD_DONE);
+            expect_entry(BOARD_ENTRY_HASH, j, period, board);
+            CHECK(as_expected());
+        }
+    }
+    for (int j = 1; j <= PEERS; j++) {
+        if (j == LIAR) {
+            continue;
+        }
+        CHECK(STEP(.op = BOARD_OP_BACK, .peer = j) == BOARD_SHORT);
+        for (int e = first; e < first + HONEST; e++) {
+            CHECK(STEP(.op = BOARD_OP_HEAR, .peer = j, .entry = e) == BOARD_DONE);
+            expect_bit(BOARD_STATE_HEARD_AT, (size_t)(256 * (j - 1) + e));
+            CHECK(as_expected());
+        }
+        CHECK(STEP(.op = BOARD_OP_BACK, .peer = j) == BOARD_DONE);
+        backing = entries;
+        expect_entry(BOARD_ENTRY_BACKING, j, period, board);
+        expected[BOARD_STATE_NEXT_AT + j - 1] = (uint8_t)(period + 1);
+        CHECK(as_expected());
+    }
+    CHECK(STEP(.op = BOARD_OP_PUBLISH, .entry = backing) == BOARD_DONE);
+    expect_entry(BOARD_ENTRY_BOARD, 0, period, board);
+    CHECK(as_expected());
+}
+
+/* A dishonest peer's entries, of a board with items in two bytes; and more of them until the bag is full. */
+static void check_false_entries(void) {
+    uint64_t board = 1 << 3 | 1 << 9;
+    CHECK(STEP(.op = BOARD_OP_FALSE_HASH, .peer = LIAR, .period = 2, .board = board) == BOARD_DONE);
+    expect_entry(BOARD_ENTRY_HASH, LIAR, 2, board);
+    CHECK(as_expected());
+    CHECK(STEP(.op = BOARD_OP_FALSE_BACKING, .peer = LIAR, .period = 2, .board = board) == BOARD_DONE);
+    expect_entry(BOARD_ENTRY_BACKING, LIAR, 2, board);
+    CHECK(as_expected());
+    for (uint64_t other = 1 << 10; entries < BOARD_ENTRIES_MOST; other++) {
+        CHECK(STEP(.op = BOARD_OP_FALSE_HASH, .peer = LIAR, .period = 2, .board = other) == BOARD_DONE);
+        expect_entry(BOARD_ENTRY_HASH, LIAR, 2, other);
+        CHECK(as_expected());
+    }
+    CHECK(STEP(.op = BOARD_OP_FALSE_HASH, .peer = LIAR, .period = 2, .board = 0) == BOARD_FULL);
+    CHECK(as_expected());
+}
+
+static void check_down(void) {
+    CHECK(STEP(.op = BOARD_OP_DOWN, .peer = 5) == BOARD_DONE);
+    expected[BOARD_STATE_DOWN_AT + 4] = 1;
+    CHECK(as_expected());
+    CHECK(STEP(.op = BOARD_OP_CLOSE, .peer = 5) == BOARD_DOWN);
+    CHECK(STEP(.op = BOARD_OP_UP, .peer = 5) == BOARD_DONE);
+    expected[BOARD_STATE_DOWN_AT + 4] = 0;
+    CHECK(as_expected());
+}
+
+void check_state_numbers(void) {
+    put_table();
+    start();
+    check_open();
+    check_receipt();
+    check_fetch();
+    check_board(0, 0);
+    check_board(1, 1 << 3);
+    check_false_entries();
+    check_down();
+}

@@ -1,0 +1,162 @@
+//! The rehearsal, from input bytes to the report's bytes.
+
+use crate::advance::advance;
+use crate::state::{State, BOARD, SIZE};
+use crate::table::Table;
+
+const MOST_INPUT: usize = 65_536;
+const STEP: usize = 13;
+
+/// Writes the report and answers its length: as many bytes as there is room
+/// for are written. The state holds what the steps led to.
+/// With a state of a wrong length nothing is done, and the length is 0.
+pub fn rehearse(input: &[u8], state: &mut [u8], out: &mut [u8]) -> usize {
+    if state.len() != SIZE {
+        return 0;
+    }
+    let mut lines = Lines { out, length: 0 };
+    match Run::over(input, state) {
+        Ok((mut run, steps)) => run.report(&mut lines, steps),
+        Err(refusal) => {
+            lines.text(b"refused ");
+            lines.last(refusal as usize);
+        }
+    }
+    lines.length
+}
+
+/// A table with its clash masks, and the state under it.
+pub struct Run<'a> {
+    table: Table,
+    clashes: [u64; 64],
+    state: &'a mut State,
+}
+
+impl<'a> Run<'a> {
+    /// The run of an input from the fresh state, and its steps.
+    pub fn over<'b>(input: &'b [u8], state: &'a mut [u8]) -> Result<(Run<'a>, &'b [u8]), u8> {
+        if input.len() > MOST_INPUT {
+            return Err(15);
+        }
+        let (table, end) = Table::front(input)?;
+        state.fill(0);
+        let clashes = table.all_clashes();
+        Ok((Run { table, clashes, state: State::over(state) }, &input[end..]))
+    }
+
+    /// The answer to one step.
+    pub fn step(&mut self, bytes: &[u8]) -> u8 {
+        match advance(&self.table, |item| self.clashes[item], self.state, bytes) {
+            Ok(()) => 0,
+            Err(refusal) => refusal,
+        }
+    }
+
+    /// The state's bytes.
+    pub fn state(&self) -> &[u8] {
+        self.state.bytes()
+    }
+
+    fn report(&mut self, lines: &mut Lines, steps: &[u8]) {
+        lines.text(b"peers ");
+        lines.field(self.table.n as usize);
+        lines.text(b"threshold ");
+        lines.field(self.table.t as usize);
+        lines.text(b"honest ");
+        lines.last(self.table.honest.count_ones() as usize);
+        for (k, bytes) in steps.chunks(STEP).enumerate() {
+            lines.field(k + 1);
+            lines.last(self.step(bytes) as usize);
+        }
+        self.report_databases(lines);
+        self.report_receipts(lines);
+        self.report_boards(lines);
+        lines.text(b"end\n");
+    }
+
+    fn report_databases(&self, lines: &mut Lines) {
+        for j in 0..self.table.n as usize {
+            for period in 0..self.table.periods as usize {
+                for item in 0..self.table.m as usize {
+                    let signers = self.state.databases[j][period][item];
+                    if signers != 0 {
+                        lines.text(b"db ");
+                        lines.field(j + 1);
+                        lines.field(period);
+                        lines.field(item);
+                        lines.last(signers.count_ones() as usize);
+                    }
+                }
+            }
+        }
+    }
+
+    fn report_receipts(&self, lines: &mut Lines) {
+        for period in 0..self.table.periods as usize {
+            let mut left = self.state.receipted[period];
+            while left != 0 {
+                lines.text(b"receipt ");
+                lines.field(period);
+                lines.last(left.trailing_zeros() as usize);
+                left &= left - 1;
+            }
+        }
+    }
+
+    fn report_boards(&self, lines: &mut Lines) {
+        for entry in self.state.entries().iter().filter(|entry| entry.kind == BOARD) {
+            lines.text(b"board ");
+            lines.number(entry.period as usize);
+            let mut left = entry.board;
+            while left != 0 {
+                lines.text(b" ");
+                lines.number(left.trailing_zeros() as usize);
+                left &= left - 1;
+            }
+            lines.text(b"\n");
+        }
+    }
+}
+
+/// The report's bytes so far.
+struct Lines<'a> {
+    out: &'a mut [u8],
+    length: usize,
+}
+
+impl Lines<'_> {
+    fn byte(&mut self, byte: u8) {
+        if let Some(place) = self.out.get_mut(self.length) {
+            *place = byte;
+        }
+        self.length += 1;
+    }
+
+    fn text(&mut self, text: &[u8]) {
+        for byte in text {
+            self.byte(*byte);
+        }
+    }
+
+    /// A number below 10,000 in decimal digits.
+    fn number(&mut self, number: usize) {
+        for unit in [1000, 100, 10] {
+            if number >= unit {
+                self.byte(b'0' + (number / unit % 10) as u8);
+            }
+        }
+        self.byte(b'0' + (number % 10) as u8);
+    }
+
+    /// A number and a blank.
+    fn field(&mut self, number: usize) {
+        self.number(number);
+        self.byte(b' ');
+    }
+
+    /// A number and the line's end.
+    fn last(&mut self, number: usize) {
+        self.number(number);
+        self.byte(b'\n');
+    }
+}

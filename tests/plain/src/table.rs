@@ -1,0 +1,126 @@
+//! The ballot table: refusals 1 to 4, and which items clash.
+
+use crate::differ::all_differ;
+
+const LEAST: [u8; 16] = [1, 2, 3, 3, 4, 5, 5, 6, 7, 7, 8, 9, 9, 10, 11, 11];
+const HEADER: usize = 6;
+const PAIR: usize = 4;
+const VOTE: u8 = 1;
+const CANCELLATION: u8 = 3;
+
+/// The items' texts.
+type Texts<'a> = [&'a [u8]; 64];
+
+pub struct Table {
+    pub n: u8,
+    pub t: u8,
+    pub honest: u16,
+    pub periods: u8,
+    pub m: u8,
+    ballots: [u32; 64],
+    kinds: [u8; 64],
+}
+
+impl Table {
+    /// A table that is all of the bytes.
+    pub fn whole(bytes: &[u8]) -> Result<Table, u8> {
+        Ok(Table::read(bytes, |end| end == bytes.len())?.0)
+    }
+
+    /// The table at the front of an input, and where it ends.
+    pub fn front(input: &[u8]) -> Result<(Table, usize), u8> {
+        Table::read(input, |_| true)
+    }
+
+    fn read(bytes: &[u8], may_end: impl Fn(usize) -> bool) -> Result<(Table, usize), u8> {
+        let mut table = header(bytes)?;
+        let mut texts: Texts = [&[]; 64];
+        let end = pairs(bytes, table.m, &mut texts).ok_or(2)?;
+        if !may_end(end) {
+            return Err(2);
+        }
+        table.read_items(&texts)?;
+        Ok((table, end))
+    }
+
+    /// 3 for any item, then 4 for any two.
+    fn read_items(&mut self, texts: &Texts) -> Result<(), u8> {
+        let texts = &texts[..self.m as usize];
+        for (k, text) in texts.iter().enumerate() {
+            match (text.get(4), text.len()) {
+                (Some(1), 6..=37) | (Some(2 | 3), 5) => {}
+                _ => return Err(3),
+            }
+            self.ballots[k] = word(text, 0);
+            self.kinds[k] = text[4];
+        }
+        let twins = |i: usize, k: usize| texts[i] == texts[k];
+        if all_differ::<128>(texts.len(), |k| hash(texts[k]), twins) {
+            Ok(())
+        } else {
+            Err(4)
+        }
+    }
+
+    /// The items that clash with an item, as a set of bits.
+    pub fn clashes(&self, item: usize) -> u64 {
+        let (ballot, kind) = (self.ballots[item], self.kinds[item]);
+        if kind == CANCELLATION {
+            return 0;
+        }
+        let mut mask = 0;
+        for k in 0..self.m as usize {
+            let other = self.kinds[k];
+            let kinds = other != CANCELLATION && (kind == VOTE || other == VOTE);
+            mask |= ((self.ballots[k] == ballot && kinds) as u64) << k;
+        }
+        mask & !(1 << item)
+    }
+
+    /// The clash masks of all items.
+    pub fn all_clashes(&self) -> [u64; 64] {
+        std::array::from_fn(|k| if k < self.m as usize { self.clashes(k) } else { 0 })
+    }
+}
+
+fn header(bytes: &[u8]) -> Result<Table, u8> {
+    let &[n, t, high, low, periods, m, ..] = bytes else {
+        return Err(1);
+    };
+    let honest = u16::from_be_bytes([high, low]);
+    let good = (1..=16).contains(&n)
+        && (LEAST[n as usize - 1]..=n).contains(&t)
+        && honest as u32 >> n == 0
+        && (1..=8).contains(&periods)
+        && m <= 64;
+    if !good {
+        return Err(1);
+    }
+    Ok(Table { n, t, honest, periods, m, ballots: [0; 64], kinds: [0; 64] })
+}
+
+/// Each item's text, and where the last ends, if each begins where the one
+/// before it ends.
+fn pairs<'a>(bytes: &'a [u8], m: u8, texts: &mut Texts<'a>) -> Option<usize> {
+    let mut end = HEADER + PAIR * m as usize;
+    for (pair, text) in bytes.get(HEADER..end)?.as_chunks::<PAIR>().0.iter().zip(texts) {
+        let [a, b, c, d] = *pair;
+        let start = u16::from_be_bytes([a, b]) as usize;
+        if start != end {
+            return None;
+        }
+        end += u16::from_be_bytes([c, d]) as usize;
+        *text = bytes.get(start..end)?;
+    }
+    Some(end)
+}
+
+fn word(bytes: &[u8], at: usize) -> u32 {
+    u32::from_be_bytes(bytes[at..at + 4].try_into().unwrap())
+}
+
+/// From the ballot number, the last four bytes and the length.
+fn hash(item: &[u8]) -> u64 {
+    let (first, last) = (word(item, 0), word(item, item.len() - 4));
+    ((first as u64) << 32 | last as u64) ^ (item.len() as u64) << 48
+}

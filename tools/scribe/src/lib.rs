@@ -1,0 +1,41 @@
+//! A rehearsal as text, as bytes, and told step by step. README.md has the
+//! grammar.
+//!
+//! - `words`, `table`, `steps`: the lines of the text, and their bytes
+//! - `written`: a rehearsal read from text, with the place of each thing
+//! - `names`: names that a table does not have
+//! - `reasons`: why a step got its answer, and what it brought
+//! - `explain`: the telling, line by line
+//!
+//! Nothing is judged on the way from text to bytes but what cannot be laid out
+//! at all: a threshold out of range, a vote without preferences or a peer that
+//! does not exist can be written, and the engine gives its number.
+
+pub mod explain;
+mod names;
+pub mod reasons;
+mod steps;
+mod table;
+mod words;
+mod written;
+
+pub use written::{read, Source, Written};
+
+/// The bytes of a rehearsal written as text. An error names its line.
+pub fn bytes(text: &str) -> Result<Vec<u8>, String> {
+    Ok(read(text)?.bytes)
+}
+
+/// The text of a rehearsal in bytes. An error says what the table lacks.
+pub fn text(input: &[u8]) -> Result<String, String> {
+    let (mut lines, end) = table::write_table(input)?;
+    for step in input[end..].chunks(steps::STEP_LENGTH) {
+        lines.push(steps::write_step(step));
+    }
+    Ok(lines.join("\n") + "\n")
+}
+
+/// Bytes as two hexadecimal digits each, every one after a blank.
+fn hexadecimal(bytes: &[u8]) -> String {
+    bytes.iter().map(|byte| format!(" {byte:02X}")).collect()
+}

@@ -1,0 +1,96 @@
+//! The cases explained: the answers that their texts say after `#`, and two of
+//! them in full, written by hand.
+
+use scribe::explain::{explain_bytes, explain_text, Which};
+use std::fs;
+use std::path::{Path, PathBuf};
+
+fn folder() -> PathBuf {
+    Path::new(env!("CARGO_MANIFEST_DIR")).join("../../cases")
+}
+
+fn case(name: &str) -> String {
+    fs::read_to_string(folder().join(name).with_extension("txt")).expect("a case")
+}
+
+/// The number of a step's answer that its comment says; 0 if it says none.
+fn said(line: &str) -> u32 {
+    let comment = line.split_once('#').map_or("", |(_, comment)| comment.trim_start());
+    let digits: String = comment.chars().take_while(char::is_ascii_digit).collect();
+    digits.parse().unwrap_or(0)
+}
+
+#[test]
+fn answers_as_the_cases_say() {
+    let (mut steps, mut refusals) = (0, 0);
+    for file in fs::read_dir(folder()).expect("the folder of cases") {
+        let path = file.expect("a file").path();
+        if path.extension().is_none_or(|end| end != "txt") {
+            continue;
+        }
+        let text = fs::read_to_string(&path).expect("a case");
+        let lines: Vec<&str> = text.lines().collect();
+        let explanation = explain_text(&text, Which::All).expect("a case that can be read");
+        let told: Vec<&str> = explanation.lines().collect();
+        for pair in told.windows(2).filter(|pair| pair[0].contains(", step ")) {
+            let number: usize =
+                pair[0]["line ".len()..].split_once(',').unwrap().0.parse().unwrap();
+            let answer: u32 = pair[1].trim().split_once(' ').unwrap().0.parse().unwrap();
+            assert_eq!(answer, said(lines[number - 1]), "{}: {}", path.display(), pair[0]);
+            steps += 1;
+            refusals += (answer != 0) as usize;
+        }
+    }
+    assert!(steps > 700 && refusals > 60, "{steps} steps, {refusals} refused");
+}
+
+#[test]
+fn the_period_that_was_left() {
+    let told = explain_text(&case("left-period"), Which::Refused).unwrap();
+    let expected = "\
+line 34, step 8: take 3 1 0 0
+    8 down: peer 3 is down
+line 35, step 9: take 3 4 0 0
+    8 down: peer 3 is down
+line 62, step 34: back 1
+    12 short: peer 1 has heard 1 of 3 hashes of its board of period 0: from 1; of other boards \
+from 2, 3, 4; its board has item 0
+line 68, step 38: share 3 0
+    12 short: peer 3 has 0 of 3 signers on item 0 in its open period 1; in period 0 it has 1, 3, 4
+line 69, step 39: receipt 0 0
+    12 short: item 0 has 2 of 3 receipt shares in period 0: from 1, 4
+42 steps: 37 done, 5 refused
+";
+    assert_eq!(told, expected);
+}
+
+#[test]
+fn case_r() {
+    let bytes = fs::read(folder().join("case-r.bin")).expect("a case");
+    let expected = "\
+table: 1 peer, honest 1; threshold 1; 1 period, 1 item
+step 1: post 0
+    0 done: item 0 is posted
+step 2: hand 1 0
+    0 done: peer 1 holds item 0 in period 0
+step 3: sign 1 0
+    0 done: signature of peer 1 on item 0 in period 0; peer 1 has 1 of 1 signers on item 0 in \
+period 0: 1 (new 1)
+step 4: share 1 0
+    0 done: receipt share of peer 1 on item 0 in period 0, 1 of 1
+step 5: receipt 0 0
+    0 done: receipt for item 0 in period 0
+step 6: close 1
+    0 done: peer 1 has closed period 0, the last
+step 7: hash 1 0
+    0 done: hash of peer 1, period 0, item 0: entry 0
+step 8: hear 1 entry 0
+    0 done: peer 1 has heard entry 0, the hash of peer 1, period 0, item 0
+step 9: back 1
+    0 done: backing of peer 1, period 0, item 0: entry 1; peer 1 has backed period 0
+step 10: publish entry 1
+    0 done: board of period 0, item 0: entry 2
+10 steps: 10 done, 0 refused
+";
+    assert_eq!(explain_bytes(&bytes, Which::All), expected);
+}

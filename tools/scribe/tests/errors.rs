@@ -1,0 +1,84 @@
+//! What cannot be read is an error that has the line and what was expected
+//! there.
+
+use scribe::{bytes, text};
+
+const HEADER: &str = "peers 1 threshold 1 honest 1 periods 1";
+
+/// The error of a line that stands third, after a comment and the header.
+fn third(line: &str) -> String {
+    bytes(&format!("# a comment\n{HEADER}\n{line}\n")).unwrap_err()
+}
+
+#[test]
+fn headers() {
+    let form = "'peers N threshold T honest K .. periods P'";
+    assert_eq!(bytes("").unwrap_err(), format!("line 1: expected {form}, found no line"));
+    assert_eq!(bytes("\n\npost 0").unwrap_err(), format!("line 3: expected {form}, found 'post'"));
+    let cases = [
+        ("peers", "a number of peers (0 to 255), found the end of the line"),
+        ("peers 256", "a number of peers (0 to 255), found '256'"),
+        ("peers 4 3", "'threshold', found '3'"),
+        ("peers 4 threshold x", "a threshold (0 to 255), found 'x'"),
+        ("peers 4 threshold 3 honest 0", "an honest peer (1 to 16), found '0'"),
+        ("peers 4 threshold 3 honest 1 17", "an honest peer (1 to 16), found '17'"),
+        ("peers 4 threshold 3 honest 2 2", "2 once, found it twice"),
+        ("peers 4 threshold 3 honest 1", "'periods', found the end of the line"),
+        ("peers 4 threshold 3 honest periods -1", "a number of periods (0 to 255), found '-1'"),
+        ("peers 4 threshold 3 honest periods 1 2", "the end of the line, found '2'"),
+    ];
+    for (line, expected) in cases {
+        assert_eq!(bytes(line).unwrap_err(), format!("line 1: expected {expected}"));
+    }
+}
+
+#[test]
+fn items_and_steps() {
+    let cases = [
+        ("vote", "a ballot number (0 to 4294967295), found the end of the line"),
+        ("vote 4294967296 00", "a ballot number (0 to 4294967295), found '4294967296'"),
+        ("vote 7 1", "a preference byte of two hexadecimal digits, found '1'"),
+        ("vote 7 +1", "a preference byte of two hexadecimal digits, found '+1'"),
+        ("audit 7 00", "the end of the line, found '00'"),
+        ("cancel", "a ballot number (0 to 4294967295), found the end of the line"),
+        ("item 0G", "an item byte of two hexadecimal digits, found '0G'"),
+        ("vot 7", "an item (before the first step), a step or 'raw', found 'vot'"),
+        ("hand 1", "an item number (0 to 255), found the end of the line"),
+        ("hand 1 0 0", "the end of the line, found '0'"),
+        ("take 1 256 0 0", "the other peer's number (0 to 255), found '256'"),
+        ("hear 1 0", "'entry', found '0'"),
+        ("publish 1", "'entry', found '1'"),
+        ("false-hash 4 0 0", "'board', found '0'"),
+        ("false-hash 4 0 board 64", "an item number (0 to 63), found '64'"),
+        ("false-hash 4 0 board 1 1", "1 once, found it twice"),
+        ("raw", "1 to 13 bytes after 'raw', found 0"),
+        ("raw 00 01 02 03 04 05 06 07 08 09 0A 0B 0C 0D", "1 to 13 bytes after 'raw', found 14"),
+        ("raw 0", "a byte of two hexadecimal digits, found '0'"),
+    ];
+    for (line, expected) in cases {
+        assert_eq!(third(line), format!("line 3: expected {expected}"));
+    }
+}
+
+#[test]
+fn order_of_lines() {
+    let late = "a step or 'raw' (items stand before the first step)";
+    assert_eq!(third("post 0\naudit 7"), format!("line 4: expected {late}, found 'audit'"));
+    let short = "nothing after the short raw of line 3";
+    assert_eq!(third("raw 01\n\npost 0"), format!("line 5: expected {short}, found 'post'"));
+    assert_eq!(third("audit 7\n".repeat(256).trim()), "line 258: expected at most 255 items");
+    let long = format!("item{}", " 00".repeat(65_536));
+    assert_eq!(third(&long), "line 3: expected items of at most 65535 bytes");
+}
+
+#[test]
+fn tables_without_text() {
+    let error = |input: &[u8]| text(input).unwrap_err();
+    let start = "no text for this table";
+    assert_eq!(error(&[1, 1]), format!("{start}: header of 2 bytes, not 6"));
+    assert_eq!(error(&[1, 1, 0, 1, 1, 2, 0, 14]), format!("{start}: 2 pairs cut short"));
+    let offset = [1, 1, 0, 1, 1, 1, 0, 11, 0, 0];
+    assert_eq!(error(&offset), format!("{start}: pair 0 has offset 11, not 10"));
+    let end = [1, 1, 0, 1, 1, 1, 0, 10, 0, 5, 0];
+    assert_eq!(error(&end), format!("{start}: item 0 ends at 15, the input at 11"));
+}

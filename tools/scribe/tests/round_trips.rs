@@ -1,0 +1,135 @@
+//! Text to bytes and back: nothing is lost either way.
+
+use inputs::random::Random;
+use scribe::{bytes, text};
+
+const EVERY_NAME: &str = "\
+peers 4 threshold 3 honest 1 2 3 periods 2
+vote 7 01 02
+vote 4294967295 FF
+audit 7
+cancel 7
+post 0
+hand 1 0
+sign 1 0
+take 1 2 0 3
+share 1 0
+receipt 0 3
+close 1
+fetch 1 2 0
+hash 1 1
+hear 1 entry 255
+back 1
+publish entry 1
+false-signature 4 0 3
+false-share 4 1 3
+false-hash 4 0 board
+false-hash 4 0 board 0 2 5 63
+false-backing 4 0 board 1
+down 1
+up 1
+raw 0C 01 00 00 00 00 00 00 00 00 00 00 00
+raw 01 00
+";
+
+#[test]
+fn every_name_comes_back_as_written() {
+    assert_eq!(text(&bytes(EVERY_NAME).unwrap()).unwrap(), EVERY_NAME);
+}
+
+#[test]
+fn case_r() {
+    let case =
+        "# The smallest board.\n\n peers 1 threshold 1 honest 1 periods 1\naudit 7 # item 0\n\
+        post 0\nhand 1 0\nsign 1 0\n";
+    let table = [1, 1, 0, 1, 1, 1, 0, 10, 0, 5, 0, 0, 0, 7, 2];
+    let mut expected = table.to_vec();
+    for start in [[1, 0, 0, 0, 0], [2, 1, 0, 0, 0], [3, 1, 0, 0, 0]] {
+        expected.extend(start);
+        expected.extend([0; 8]);
+    }
+    assert_eq!(bytes(case).unwrap(), expected);
+}
+
+#[test]
+fn fields_stand_in_their_places() {
+    let table = "peers 1 threshold 1 honest periods 1\n";
+    let step = |line: &str| bytes(&format!("{table}{line}\n")).unwrap()[6..].to_vec();
+    assert_eq!(step("take 1 2 3 4"), [4, 1, 2, 3, 4, 0, 0, 0, 0, 0, 0, 0, 0]);
+    assert_eq!(step("fetch 1 2 3"), [8, 1, 2, 3, 0, 0, 0, 0, 0, 0, 0, 0, 0]);
+    assert_eq!(step("receipt 3 4"), [6, 0, 0, 3, 4, 0, 0, 0, 0, 0, 0, 0, 0]);
+    assert_eq!(step("hear 1 entry 4"), [10, 1, 0, 0, 4, 0, 0, 0, 0, 0, 0, 0, 0]);
+    let hash = [15, 1, 0, 3, 0, 128, 0, 0, 0, 0, 0, 1, 3];
+    assert_eq!(step("false-hash 1 3 board 63 8 0 1"), hash);
+}
+
+/// Bad values can be written: the engine judges them.
+#[test]
+fn bad_values_come_back() {
+    for lines in [
+        "peers 3 threshold 2 honest 1 2 3 periods 1\n",
+        "peers 0 threshold 255 honest 16 periods 0\n",
+        "peers 1 threshold 1 honest periods 9\nvote 7\nitem\nitem 00 01\naudit 7\naudit 7\n",
+        "peers 1 threshold 1 honest 1 periods 1\nitem 00 00 00 07 09\nitem 00 00 00 07 02 00\n",
+        "peers 1 threshold 1 honest 1 periods 1\npost 255\nhand 0 9\nraw FF\n",
+    ] {
+        assert_eq!(text(&bytes(lines).unwrap()).unwrap(), lines);
+    }
+    let long = format!("peers 1 threshold 1 honest 1 periods 1\nvote 7{}\n", " 00".repeat(33));
+    assert_eq!(text(&bytes(&long).unwrap()).unwrap(), long);
+}
+
+/// A table with random items, then random steps and a random tail.
+fn random_input(random: &mut Random) -> Vec<u8> {
+    let mut input: Vec<u8> = random.bytes(5);
+    let m = random.below(6);
+    input.push(m as u8);
+    let mut offset = 6 + 4 * m;
+    let mut items = Vec::new();
+    for _ in 0..m {
+        let length = random.below(40);
+        input.extend([(offset >> 8) as u8, offset as u8, 0, length as u8]);
+        items.extend((0..length).map(|at| match at {
+            4 => random.below(5) as u8,
+            _ => random.bits() as u8,
+        }));
+        offset += length;
+    }
+    input.extend(items);
+    for _ in 0..random.below(30) {
+        input.push(random.below(21) as u8);
+        input.extend((0..12).map(|_| match random.below(3) {
+            0 => random.bits() as u8,
+            _ => 0,
+        }));
+    }
+    input.extend((0..random.below(13)).map(|_| random.bits() as u8));
+    input
+}
+
+#[test]
+fn random_inputs_come_back() {
+    let mut random = Random::new(1, 0);
+    let mut named = 0;
+    for _ in 0..5000 {
+        let input = random_input(&mut random);
+        let lines = text(&input).unwrap();
+        named += lines.lines().filter(|line| !line.starts_with("raw")).count();
+        assert_eq!(bytes(&lines).unwrap(), input);
+        assert_eq!(text(&bytes(&lines).unwrap()).unwrap(), lines);
+    }
+    assert!(named > 20_000, "{named}");
+}
+
+/// Each op with each field filled, and with each single byte beside them.
+#[test]
+fn every_op_and_byte_comes_back() {
+    for op in 0..=255u8 {
+        for at in 1..13 {
+            let mut input = vec![1, 1, 0, 1, 1, 0, op];
+            input.extend([0; 12]);
+            input[6 + at] = 200;
+            assert_eq!(bytes(&text(&input).unwrap()).unwrap(), input);
+        }
+    }
+}
