@@ -83,7 +83,8 @@ module _ (s : List ℕ) (o : ℕ) (x : Entry) where
     unfolding entered written
     written-period =
         stored-out itemBytes s3 (o + boardIn) (boardOf x) (o + periodIn) (λ l. absurd (omega arith))
-        ∙ getD-set-same s2 (o + periodIn) (periodOf x) 0 (omega (arith, length-set s1 (o + signerIn) (signerOf x), length-set s o (kindOf x)))
+        ∙ getD-set-same s2 (o + periodIn) (periodOf x) 0
+        (omega (arith, length-set s1 (o + signerIn) (signerOf x), length-set s o (kindOf x)))
 
     written-board : boardOf x < 256 ^ itemBytes → num itemBytes (entered s o x) (o + boardIn) ≡ boardOf x
     unfolding entered written
@@ -177,7 +178,9 @@ module _ (s : List ℕ) (x : Entry) (c : Canon s) (room : count s < entries) (h 
       }
 
 -- the writing of an entry of which the kind is known
-pub enter-is : (s t : List ℕ) (o : ℕ) (x y : Entry) → x ≡ y → (t ≡ written s o (kindOf y) (signerOf y) (periodOf y) (boardOf y)) × EntryFits y → (t ≡ entered s o x) × EntryFits x
+pub enter-is : (s t : List ℕ) (o : ℕ) (x y : Entry) → x ≡ y
+    → (t ≡ written s o (kindOf y) (signerOf y) (periodOf y) (boardOf y)) × EntryFits y
+    → (t ≡ entered s o x) × EntryFits x
 unfolding entered
 enter-is s t o x y q h = subst (λ (z : Entry). (t ≡ written s o (kindOf z) (signerOf z) (periodOf z) (boardOf z)) × EntryFits z) (sym q) h
 

@@ -48,9 +48,13 @@ entry-read s e c = go (decLt e (count s))
     go (no l) = zero-entry s e (λ i q. c .rest i (omega arith)) ∙ sym (nth-none s e (omega arith))
 
 pub read-entry : (s : List ℕ) (e board : ℕ) (x : Entry) → Canon s → board ≡ num itemBytes s (entryStart e + boardIn)
-    → x ≡ entryOf (byteAt s (entryStart e)) (byteAt s (entryStart e + signerIn)) (byteAt s (entryStart e + periodIn)) board → x ≡ nth (contents s .bag) e
+    → x ≡ entryOf (byteAt s (entryStart e)) (byteAt s (entryStart e + signerIn)) (byteAt s (entryStart e + periodIn)) board
+    → x ≡ nth (contents s .bag) e
 unfolding entryAt
-read-entry s e board x c b q = q ∙ ap (entryOf (byteAt s (entryStart e)) (byteAt s (entryStart e + signerIn)) (byteAt s (entryStart e + periodIn))) b ∙ entry-read s e c
+read-entry s e board x c b q =
+    q
+    ∙ ap (entryOf (byteAt s (entryStart e)) (byteAt s (entryStart e + signerIn)) (byteAt s (entryStart e + periodIn))) b
+    ∙ entry-read s e c
 
 pub entry-past : (s : List ℕ) (e : ℕ) → Canon s → entries ≤ e → noEntry ≡ nth (contents s .bag) e
 entry-past s e c l = sym (nth-none s e (omega (arith, c .counted)))
@@ -134,4 +138,7 @@ module _ (x : Entry) (bag : List Entry) (e : ℕ) {r : Bool} (q : r ≡ sameEntr
   found t c l = sym (at-in x bag e (omega arith) (sym (eq-of-same x (nth bag e) (sym q ∙ t))))
 
 pub not-found : (x : Entry) (bag : List Entry) {e n : ℕ} → Missed x bag e → n ≡ length bag → n ≤ e → false ≡ isIn x bag
-not-found x bag m c l = sym (is-false (isIn x bag) (λ h. let w = in-at x bag h in split (subst (λ (z : Entry). sameEntry x z ≡ true) (sym (w .2)) (same-self x)) (m .other (w .0) (omega (arith, w .1)))))
+not-found x bag m c l =
+    sym
+    (is-false (isIn x bag) (λ h. let w = in-at x bag h in split (subst (λ (z : Entry). sameEntry x z ≡ true) (sym (w .2)) (same-self x))
+    (m .other (w .0) (omega (arith, w .1)))))

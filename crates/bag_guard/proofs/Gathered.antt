@@ -46,29 +46,35 @@ or-false false b e = e
 
 no-peer : (set k : ℕ) → set < 2 ^ room → ((i : ℕ) → i < room → k ≡ i + 1 → ⊥) → set ≡ pack room (λ i. bit set i || eqb k (i + 1))
 no-peer set k l out =
-    sym (pack-ext room (λ i. bit set i || eqb k (i + 1)) (bit set) (λ i m. or-false (bit set i) (eqb k (i + 1)) (ne-eqb k (i + 1) (out i m)))
+    sym (pack-ext room (λ i. bit set i || eqb k (i + 1)) (bit set)
+    (λ i m. or-false (bit set i) (eqb k (i + 1)) (ne-eqb k (i + 1) (out i m)))
     ∙ pack-bit room set l)
 
 one-peer : (set k : ℕ) → set < 2 ^ room → 1 ≤ k → k ≤ room → bitOr set (2 ^ (k - 1)) ≡ pack room (λ i. bit set i || eqb k (i + 1))
 one-peer set k l d h =
     let f : ℕ → Bool = λ i. bit set i || eqb k (i + 1) in
-    bit-ext room (bitOr set (2 ^ (k - 1))) (pack room f) (or-lt room set (2 ^ (k - 1)) l (pow-lt {i = k - 1} {j = room} (omega arith))) (pack-lt room f)
+    bit-ext room (bitOr set (2 ^ (k - 1))) (pack room f) (or-lt room set (2 ^ (k - 1)) l (pow-lt {i = k - 1} {j = room} (omega arith)))
+    (pack-lt room f)
     (λ i m. bit-or set (2 ^ (k - 1)) i ∙ ap (λ (b : Bool). bit set i || b) (bit-pow (k - 1) i ∙ same i) ∙ sym (bit-pack room f i m))
   where
     same : (i : ℕ) → eqb (k - 1) i ≡ eqb k (i + 1)
-    same i = iff _ _ (λ e. eq-eqb k (i + 1) (omega (arith, d, eqb-true (k - 1) i e))) (λ e. eq-eqb (k - 1) i (omega (arith, eqb-true k (i + 1) e)))
+    same i =
+        iff _ _ (λ e. eq-eqb k (i + 1) (omega (arith, d, eqb-true (k - 1) i e)))
+        (λ e. eq-eqb (k - 1) i (omega (arith, eqb-true k (i + 1) e)))
 
 with-members : (set k : ℕ) → set < 2 ^ room → withPeer set k ≡ pack room (λ i. bit set i || eqb k (i + 1))
 unfolding withPeer
 with-members set k l = go (either (between 1 k room))
   where
-    go : (between 1 k room ≡ true) ⊎ (between 1 k room ≡ false) → cond (between 1 k room) (bitOr set (2 ^ (k - 1))) set ≡ pack room (λ i. bit set i || eqb k (i + 1))
+    go : (between 1 k room ≡ true) ⊎ (between 1 k room ≡ false)
+        → cond (between 1 k room) (bitOr set (2 ^ (k - 1))) set ≡ pack room (λ i. bit set i || eqb k (i + 1))
     go (inl t) = let w = between-true 1 k room t in rw t (one-peer set k l (w .0) (w .1))
     go (inr t) = rw t (no-peer set k l (λ i m q. split (and-i _ _ (le-leb 1 k (omega arith)) (le-leb k room (omega arith))) t))
 
 -- the signer of an entry, as it is read and added
 
-heard-if : (c : Contents) (j p B e : ℕ) {b : Bool} {k : ℕ} → b ≡ c .has (Heard j e) → k ≡ signerWith hashKind p B (entryAt (c .bag) e) → cond b k 0 ≡ heardSigner c j p B e
+heard-if : (c : Contents) (j p B e : ℕ) {b : Bool} {k : ℕ} → b ≡ c .has (Heard j e)
+    → k ≡ signerWith hashKind p B (entryAt (c .bag) e) → cond b k 0 ≡ heardSigner c j p B e
 unfolding heardSigner
 heard-if c j p B e t q = ap₂ (λ (b : Bool) (k : ℕ). cond b k 0) t q
 
@@ -99,7 +105,10 @@ gather-none f = refl
 
 pub gather-more : (f : ℕ → ℕ) (e set r : ℕ) → set ≡ gathered f e → r ≡ withPeer set (f e) → r ≡ gathered f (e + 1)
 unfolding gathered any
-gather-more f e set r s w = w ∙ with-members set (f e) (rw s (pack-lt room (λ k. any e (λ a. eqb (f a) (k + 1))))) ∙ pack-ext 16 (λ i. bit set i || eqb (f e) (i + 1)) (λ i. any (e + 1) (λ a. eqb (f a) (i + 1))) (λ i l. rw (s, bit-pack 16 (λ i. any e (λ a. eqb (f a) (i + 1))) i l, add-one e))
+gather-more f e set r s w =
+    w ∙ with-members set (f e) (rw s (pack-lt room (λ k. any e (λ a. eqb (f a) (k + 1)))))
+    ∙ pack-ext 16 (λ i. bit set i || eqb (f e) (i + 1)) (λ i. any (e + 1) (λ a. eqb (f a) (i + 1)))
+    (λ i l. rw (s, bit-pack 16 (λ i. any e (λ a. eqb (f a) (i + 1))) i l, add-one e))
 
 pub gather-end : (f : ℕ → ℕ) (e n set l : ℕ) → e ≤ n → n ≤ e → n ≡ l → set ≡ gathered f e → set ≡ gathered f l
 gather-end f e n set l a b q s = s ∙ ap (gathered f) {x = e} {y = l} (omega arith)
@@ -111,7 +120,8 @@ gathered-has f m k a b = member-pack room (λ k. any m (λ e. eqb (f e) k)) k a 
 
 -- what an entry whose signer was found is
 
-signer-of : (x : Entry) (kind p B k : ℕ) → 1 ≤ k → signerWith kind p B x ≡ k → (kindOf x ≡ kind) × (periodOf x ≡ p) × (boardOf x ≡ B) × (signerOf x ≡ k)
+signer-of : (x : Entry) (kind p B k : ℕ) → 1 ≤ k → signerWith kind p B x ≡ k
+    → (kindOf x ≡ kind) × (periodOf x ≡ p) × (boardOf x ≡ B) × (signerOf x ≡ k)
 unfolding signerWith
 signer-of x kind p B k a e = go (either test)
   where
@@ -120,8 +130,13 @@ signer-of x kind p B k a e = go (either test)
 
     go : (test ≡ true) ⊎ (test ≡ false) → (kindOf x ≡ kind) × (periodOf x ≡ p) × (boardOf x ≡ B) × (signerOf x ≡ k)
     go (inl t) =
-        let r = and-r (eqb (periodOf x) p) _ t in
-        (eqb-true (kindOf x) kind (and-l _ _ r), eqb-true (periodOf x) p (and-l _ _ t), eqb-true (boardOf x) B (and-r (eqb (kindOf x) kind) _ r), rw t at e)
+        let r = and-r (eqb (periodOf x) p) _ t in (
+          eqb-true (kindOf x) kind (and-l _ _ r),
+          eqb-true (periodOf x) p (and-l _ _ t),
+          eqb-true (boardOf x) B
+              (and-r (eqb (kindOf x) kind) _ r),
+          rw t at e,
+        )
     go (inr t) = let z : 0 ≡ k = rw t at e in absurd (omega arith)
 
 of-signer : (x : Entry) → signerWith (kindOf x) (periodOf x) (boardOf x) x ≡ signerOf x
@@ -175,22 +190,26 @@ module _ (c : Contents) (p B k : ℕ) (a : 1 ≤ k) where
           let f = told-at H 0 (c .bag) k p B t in
           let e = f .0 in
           any-at (λ e. eqb (heardSigner c j p B e) k) e (length (c .bag)) (f .1)
-          (eq-eqb (heardSigner c j p B e) k (found-heard j e (subst (λ (x : ℕ). H x ≡ true) {x = 0 + e} {y = e} (omega arith) (f .2)) (f .3)))
+          (eq-eqb (heardSigner c j p B e) k
+          (found-heard j e (subst (λ (x : ℕ). H x ≡ true) {x = 0 + e} {y = e} (omega arith) (f .2)) (f .3)))
 
   backers-same : any (length (c .bag)) (λ e. eqb (backSigner c p B e) k) ≡ isIn (Backing k p B) (c .bag)
   unfolding backSigner
   backers-same = iff _ _ to from
     where
-      to : any (length (c .bag)) (λ e. eqb (signerWith backingKind p B (entryAt (c .bag) e)) k) ≡ true → isIn (Backing k p B) (c .bag) ≡ true
+      to : any (length (c .bag)) (λ e. eqb (signerWith backingKind p B (entryAt (c .bag) e)) k) ≡ true
+          → isIn (Backing k p B) (c .bag) ≡ true
       to t =
           let f = any-found (length (c .bag)) (λ e. eqb (signerWith backingKind p B (entryAt (c .bag) e)) k) t in
           let x = entryAt (c .bag) (f .0) in
           at-in (Backing k p B) (c .bag) (f .0) (f .1) (backing-is x k p B a (eqb-true (signerWith backingKind p B x) k (f .2)))
 
-      from : isIn (Backing k p B) (c .bag) ≡ true → any (length (c .bag)) (λ e. eqb (signerWith backingKind p B (entryAt (c .bag) e)) k) ≡ true
+      from : isIn (Backing k p B) (c .bag) ≡ true
+          → any (length (c .bag)) (λ e. eqb (signerWith backingKind p B (entryAt (c .bag) e)) k) ≡ true
       from t =
           let f = in-at (Backing k p B) (c .bag) t in
-          any-at (λ e. eqb (signerWith backingKind p B (entryAt (c .bag) e)) k) (f .0) (length (c .bag)) (f .1) (eq-eqb _ k (found-backing (entryAt (c .bag) (f .0)) k p B (f .2)))
+          any-at (λ e. eqb (signerWith backingKind p B (entryAt (c .bag) e)) k) (f .0) (length (c .bag)) (f .1)
+          (eq-eqb _ k (found-backing (entryAt (c .bag) (f .0)) k p B (f .2)))
 
 -- in a state that is ready no supporter is above n: they are a quorum of the rules where they reach t
 
@@ -206,7 +225,8 @@ module _ (h : Head) (s : List ℕ) (R : Ready h s) {r : Bool} where
       same k a b = gathered-has _ _ k a b ∙ heard-same (contents s) p B k a j
 
       below : (k : ℕ) → S k ≡ true → k ≤ h .n
-      below k t = R .good noClash .valid .bag .entries (Hash k p B) (told-in (λ e. contents s .has (Heard j e)) 0 (contents s .bag) k p B t) .0 .1
+      below k t =
+          R .good noClash .valid .bag .entries (Hash k p B) (told-in (λ e. contents s .has (Heard j e)) 0 (contents s .bag) k p B t) .0 .1
 
   pub backers-few : (p B set : ℕ) → set ≡ gathered (backSigner (contents s) p B) (length (contents s .bag)) → r ≡ reaches h set
       → not r ≡ not (quorum (tableOf h noClash) (backers (contents s .bag) p B))

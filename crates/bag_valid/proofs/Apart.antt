@@ -30,7 +30,8 @@ use Rattle.bag_valid.specs.BagOk.{entryAtOk}
 use Rattle.bag_valid.specs.Numbers.{marks, markPrime, markStep, signers, markBytes, markOf, kindAt, signerAt, periodAt, boardAt, markAt, Seen, sameAt, newAt}
 
 -- the mark of four numbers
-pub mark-of : (a b c board kind signer period : ℕ) → a ≡ kind → b ≡ signer → c ≡ period → (board % markPrime + markStep * ((a * signers + b) * periods + c)) % marks ≡ markOf kind signer period board
+pub mark-of : (a b c board kind signer period : ℕ) → a ≡ kind → b ≡ signer → c ≡ period
+    → (board % markPrime + markStep * ((a * signers + b) * periods + c)) % marks ≡ markOf kind signer period board
 unfolding markOf
 mark-of a b c board kind signer period p q r = rw (p, q, r)
 
@@ -56,11 +57,13 @@ module _ (s : List ℕ) where
       let k = eqb-true (kindAt s e) (kindAt s d) (and-r (eqb (periodAt s e) (periodAt s d)) _ r2) in
       λ i. markOf (k i) (g i) (p i) (b i)
 
-  pub unseen-new : (seen : List ℕ) (e mark : ℕ) (r : Bool) → mark ≡ markAt s e → Seen s seen e → r ≡ bitAt seen mark → not r ≡ true → true ≡ newAt s e
+  pub unseen-new : (seen : List ℕ) (e mark : ℕ) (r : Bool) → mark ≡ markAt s e → Seen s seen e → r ≡ bitAt seen mark
+      → not r ≡ true → true ≡ newAt s e
   unfolding newAt
   unseen-new seen e mark r m all q n = sym (ap not (is-false (any e (sameAt s e)) (λ t.
       let found = any-found e (sameAt s e) t in
-      unmarked (markAt s) (bitAt seen) e mark (all .marked) (sym q ∙ not-true r n) (found .0) (found .1) (m ∙ same-mark e (found .0) (found .2)))))
+      unmarked (markAt s) (bitAt seen) e mark (all .marked) (sym q ∙ not-true r n) (found .0) (found .1)
+      (m ∙ same-mark e (found .0) (found .2)))))
 
   pub before-new : (e : ℕ) (r : Bool) → r ≡ any e (sameAt s e) → not r ≡ newAt s e
   unfolding newAt
@@ -93,10 +96,13 @@ pub ruleset by-seen = (by-loop, seen-none, seen-more, mark-fits)
 different-append : (l : List Entry) (a : Entry) → different (l ++ (a ∷ [])) ≡ (different l && not (isIn a l))
 unfolding different isIn
 different-append [] a = refl
-different-append (b ∷ l) a = rw (in-append b a l, different-append l a, same-turned b a) (regroup (sameEntry a b) (isIn b l) (different l) (isIn a l))
+different-append (b ∷ l) a =
+    rw (in-append b a l, different-append l a, same-turned b a) (regroup (sameEntry a b) (isIn b l) (different l) (isIn a l))
   where
     same-turned : (x y : Entry) → sameEntry x y ≡ sameEntry y x
-    same-turned x y = iff _ _ (λ t. ap (λ (z : Entry). sameEntry z x) (sym (eq-of-same x y t)) ∙ same-self x) (λ t. ap (λ (z : Entry). sameEntry z y) (sym (eq-of-same y x t)) ∙ same-self y)
+    same-turned x y =
+        iff _ _ (λ t. ap (λ (z : Entry). sameEntry z x) (sym (eq-of-same x y t)) ∙ same-self x)
+        (λ t. ap (λ (z : Entry). sameEntry z y) (sym (eq-of-same y x t)) ∙ same-self y)
 
     regroup : (x y z w : Bool) → (not (x || y) && (z && not w)) ≡ ((not y && z) && not (x || w))
     regroup true true z w = refl
@@ -111,18 +117,25 @@ in-tab zero f a = empty
   where
     empty : isIn a (tab 0 f) ≡ false
     empty = refl
-in-tab (suc n) f a = ap (isIn a) (tab-more n f) ∙ in-append a (f n) (tab n f) ∙ or-comm (sameEntry a (f n)) (isIn a (tab n f)) ∙ ap (λ (b : Bool). b || sameEntry a (f n)) (in-tab n f a)
+in-tab (suc n) f a =
+    ap (isIn a) (tab-more n f) ∙ in-append a (f n) (tab n f) ∙ or-comm (sameEntry a (f n)) (isIn a (tab n f))
+    ∙ ap (λ (b : Bool). b || sameEntry a (f n)) (in-tab n f a)
 
 different-tab : (n : ℕ) (f : ℕ → Entry) → different (tab n f) ≡ every n (λ e. not (any e (λ d. sameEntry (f e) (f d))))
 unfolding every different tab
 different-tab zero f = refl
-different-tab (suc n) f = ap different (tab-more n f) ∙ different-append (tab n f) (f n) ∙ ap₂ (λ (a b : Bool). a && not b) (different-tab n f) (in-tab n f (f n))
+different-tab (suc n) f =
+    ap different (tab-more n f) ∙ different-append (tab n f) (f n) ∙ ap₂ (λ (a b : Bool). a && not b) (different-tab n f) (in-tab n f (f n))
 
 -- entries whose bytes are settled are the same exactly if their four numbers are
 module _ (h : Head) (s : List ℕ) where
-  same-numbers : (x y : Entry) → sameEntry x y ≡ (eqb (boardOf x) (boardOf y) && (eqb (signerOf x) (signerOf y) && (eqb (periodOf x) (periodOf y) && eqb (kindOf x) (kindOf y))))
+  same-numbers : (x y : Entry)
+      → sameEntry x y ≡ (eqb (boardOf x) (boardOf y) &&
+      (eqb (signerOf x) (signerOf y) && (eqb (periodOf x) (periodOf y) && eqb (kindOf x) (kindOf y))))
   same-numbers x y = iff _ _
-      (λ t. let e = eq-of-same x y t in ap (λ (z : Entry). eqb (boardOf x) (boardOf z) && (eqb (signerOf x) (signerOf z) && (eqb (periodOf x) (periodOf z) && eqb (kindOf x) (kindOf z)))) (sym e)
+      (λ t. let e = eq-of-same x y t in ap
+      (λ (z : Entry). eqb (boardOf x) (boardOf z) &&
+      (eqb (signerOf x) (signerOf z) && (eqb (periodOf x) (periodOf z) && eqb (kindOf x) (kindOf z)))) (sym e)
       ∙ and-i _ _ (eqb-self (boardOf x)) (and-i _ _ (eqb-self (signerOf x)) (and-i _ _ (eqb-self (periodOf x)) (eqb-self (kindOf x)))))
       (λ t. let r1 = and-r (eqb (boardOf x) (boardOf y)) _ t in
       let r2 = and-r (eqb (signerOf x) (signerOf y)) _ r1 in
@@ -136,12 +149,17 @@ module _ (h : Head) (s : List ℕ) where
     -- the numbers of an entry are its bytes'
     kind-of : (e : ℕ) → e < count s → kindOf (entryAt s e) ≡ kindAt s e
     unfolding entryAtOk
-    kind-of e l = sym (eqb-true (kindAt s e) (kindOf (entryAt s e)) (and-l (eqb (kindAt s e) (kindOf (entryAt s e))) _ (every-at (entryAtOk h s) (count s) ok e l)))
+    kind-of e l =
+        sym
+        (eqb-true (kindAt s e) (kindOf (entryAt s e))
+        (and-l (eqb (kindAt s e) (kindOf (entryAt s e))) _ (every-at (entryAtOk h s) (count s) ok e l)))
 
     signer-of : (e : ℕ) → e < count s → signerOf (entryAt s e) ≡ signerAt s e
     unfolding entryAtOk
     signer-of e l =
-        sym (eqb-true (signerAt s e) (signerOf (entryAt s e)) (and-l (eqb (signerAt s e) (signerOf (entryAt s e))) _ (and-r (eqb (kindAt s e) (kindOf (entryAt s e))) _ (every-at (entryAtOk h s) (count s) ok e l))))
+        sym (eqb-true (signerAt s e) (signerOf (entryAt s e))
+        (and-l (eqb (signerAt s e) (signerOf (entryAt s e))) _
+        (and-r (eqb (kindAt s e) (kindOf (entryAt s e))) _ (every-at (entryAtOk h s) (count s) ok e l))))
 
     period-at : (e : ℕ) → periodOf (entryAt s e) ≡ periodAt s e
     unfolding entryAt

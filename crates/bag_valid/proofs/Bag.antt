@@ -49,8 +49,10 @@ module _ (h : Head) (clash : ℕ → ℕ → Bool) where
   is-between low x high p q = and-i _ _ (le-leb low x p) (le-leb x high q)
 
   ok-of-entry : (x : Entry) → InTable (tableOf h clash) x → entryOk h x ≡ true
-  ok-of-entry (Hash k p B) t = and-i _ _ (is-between 1 k (h .n) (t .0 .0) (t .0 .1)) (and-i _ _ (lt-ltb _ _ (t .1 .0)) (lt-ltb _ _ (t .1 .1)))
-  ok-of-entry (Backing k p B) t = and-i _ _ (is-between 1 k (h .n) (t .0 .0) (t .0 .1)) (and-i _ _ (lt-ltb _ _ (t .1 .0)) (lt-ltb _ _ (t .1 .1)))
+  ok-of-entry (Hash k p B) t =
+      and-i _ _ (is-between 1 k (h .n) (t .0 .0) (t .0 .1)) (and-i _ _ (lt-ltb _ _ (t .1 .0)) (lt-ltb _ _ (t .1 .1)))
+  ok-of-entry (Backing k p B) t =
+      and-i _ _ (is-between 1 k (h .n) (t .0 .0) (t .0 .1)) (and-i _ _ (lt-ltb _ _ (t .1 .0)) (lt-ltb _ _ (t .1 .1)))
   ok-of-entry (Board p B) t = and-i _ _ (lt-ltb _ _ (t .0)) (lt-ltb _ _ (t .1))
 
   module _ (s : List ℕ) where
@@ -70,7 +72,9 @@ module _ (h : Head) (clash : ℕ → ℕ → Bool) where
           counted = leb-true _ _ (and-l (leb (count s) entries) _ ok);
           each = every-at (entryAtOk h s) (count s) (and-l (every (count s) (entryAtOk h s)) _ r1);
           apart = and-l (different (contents s .bag)) _ r2;
-          rest = λ i l. eqb-true _ 0 (every-at (λ i. eqb (byteAt s (entryStart (count s) + i)) 0) (size - entryStart (count s)) (and-r (different (contents s .bag)) _ r2) i l);
+          rest =
+              λ i l. eqb-true _ 0 (every-at (λ i. eqb (byteAt s (entryStart (count s) + i)) 0) (size - entryStart (count s))
+              (and-r (different (contents s .bag)) _ r2) i l);
         }
 
     pub canon-of-ok : length s ≡ size → Bytes s → bagOk h s ≡ true → Canon s
@@ -93,7 +97,8 @@ module _ (h : Head) (clash : ℕ → ℕ → Bool) where
       where
         after : (i : ℕ) → entryStart (count s) ≤ i → Dec (i < size) → byteAt s i ≡ 0
         after i l (yes q) =
-            subst (λ (k : ℕ). byteAt s k ≡ 0) {x = entryStart (count s) + (i - entryStart (count s))} {y = i} (omega arith) (tested ok .rest (i - entryStart (count s)) (omega arith))
+            subst (λ (k : ℕ). byteAt s k ≡ 0) {x = entryStart (count s) + (i - entryStart (count s))} {y = i} (omega arith)
+            (tested ok .rest (i - entryStart (count s)) (omega arith))
         after i l (no q) = List·getD-eq-default s 0 (omega (arith, long))
 
     pub bag-of-ok : bagOk h s ≡ true → BagIn (tableOf h clash) (contents s .bag)
@@ -104,12 +109,17 @@ module _ (h : Head) (clash : ℕ → ℕ → Bool) where
           size = omega (arith, bag-length s, B .counted);
           entries = λ x q. let at = in-tab (count s) (entryAt s) x q in
               subst (λ (y : Entry). InTable (tableOf h clash) y) (sym (at .2))
-              (entry-of-ok (entryAt s (at .0)) (and-r (eqb (byteAt s (entryStart (at .0) + signerIn)) (signerOf (entryAt s (at .0)))) _ (and-r (eqb (byteAt s (entryStart (at .0))) (kindOf (entryAt s (at .0)))) _ (B .each (at .0) (at .1)))));
+              (entry-of-ok (entryAt s (at .0))
+              (and-r (eqb (byteAt s (entryStart (at .0) + signerIn)) (signerOf (entryAt s (at .0)))) _
+              (and-r (eqb (byteAt s (entryStart (at .0))) (kindOf (entryAt s (at .0)))) _ (B .each (at .0) (at .1)))));
           apart = B .apart;
         }
 
     pub ok-of-bag : Canon s → BagIn (tableOf h clash) (contents s .bag) → bagOk h s ≡ true
     unfolding bagOk contents entryAtOk
     ok-of-bag c B = and-i _ _ (le-leb _ _ (c .counted)) (and-i _ _
-        (every-of (count s) (entryAtOk h s) (λ e l. let own = c .settled e l in and-i _ _ (eq-eqb _ _ (own .kind)) (and-i _ _ (eq-eqb _ _ (own .signer)) (ok-of-entry (entryAt s e) (B .entries (entryAt s e) (tab-in (count s) (entryAt s) e l))))))
-        (and-i _ _ (B .apart) (every-of (size - entryStart (count s)) (λ i. eqb (byteAt s (entryStart (count s) + i)) 0) (λ i l. eq-eqb _ 0 (c .rest (entryStart (count s) + i) (omega arith))))))
+        (every-of (count s) (entryAtOk h s)
+        (λ e l. let own = c .settled e l in and-i _ _ (eq-eqb _ _ (own .kind))
+        (and-i _ _ (eq-eqb _ _ (own .signer)) (ok-of-entry (entryAt s e) (B .entries (entryAt s e) (tab-in (count s) (entryAt s) e l))))))
+        (and-i _ _ (B .apart) (every-of (size - entryStart (count s)) (λ i. eqb (byteAt s (entryStart (count s) + i)) 0)
+        (λ i l. eq-eqb _ 0 (c .rest (entryStart (count s) + i) (omega arith))))))

@@ -72,6 +72,8 @@ module _ (h : Head) (kind signer period board : ℕ) where
       go (no n) (yes e) = rw (e, eqb-self signer)
       go (no n) (no m) = rw (ne-eqb kind 1 n, ne-eqb kind 2 m) (last (eqb kind 3) (eqb signer 0) rest)
 
-pub entry-at : (h : Head) (s : List ℕ) (e board : ℕ) (r : Bool) → board ≡ boardAt s e → r ≡ fourOk h (kindAt s e) (signerAt s e) (periodAt s e) board → r ≡ entryAtOk h s e
+pub entry-at : (h : Head) (s : List ℕ) (e board : ℕ) (r : Bool) → board ≡ boardAt s e
+    → r ≡ fourOk h (kindAt s e) (signerAt s e) (periodAt s e) board → r ≡ entryAtOk h s e
 unfolding entryAtOk entryAt
-entry-at h s e board r q p = p ∙ ap (fourOk h (kindAt s e) (signerAt s e) (periodAt s e)) q ∙ four-entry h (kindAt s e) (signerAt s e) (periodAt s e) (boardAt s e)
+entry-at h s e board r q p =
+    p ∙ ap (fourOk h (kindAt s e) (signerAt s e) (periodAt s e)) q ∙ four-entry h (kindAt s e) (signerAt s e) (periodAt s e) (boardAt s e)

@@ -29,7 +29,8 @@ module _ (n : ℕ) (s : List ℕ) (o v : ℕ) where
   pub bitAt-joined-out : (a : ℕ) → (o ≤ a / 8 → o + n ≤ a / 8) → bitAt (joined n s o v) a ≡ bitAt s a
   bitAt-joined-out a h = bitAt-same _ s a (joined-out (a / 8) h)
 
-  pub bitAt-joined : (k : ℕ) → Bytes s → o + n ≤ length s → v < 2 ^ (8 * n) → k < 8 * n → bitAt (joined n s o v) (8 * o + k) ≡ (bit v k || bitAt s (8 * o + k))
+  pub bitAt-joined : (k : ℕ) → Bytes s → o + n ≤ length s → v < 2 ^ (8 * n) → k < 8 * n
+      → bitAt (joined n s o v) (8 * o + k) ≡ (bit v k || bitAt s (8 * o + k))
   unfolding joined
   bitAt-joined k b h l m =
       bitAt-stored n s o (bitOr (num n s o) v) k b h both m

@@ -12,7 +12,8 @@ use Rattle.bits.proofs.Number.{num-lt}
 
 -- storing goes up: with i bytes stored, the rest of v is still to be stored from o + i on
 
-pub store-more : (n i : ℕ) (s r : List ℕ) (o w : ℕ) → i < n → stored (n - i) s (o + i) w ≡ r → stored (n - (i + 1)) (set s (o + i) (w % 256)) (o + (i + 1)) (w / 256) ≡ r
+pub store-more : (n i : ℕ) (s r : List ℕ) (o w : ℕ) → i < n → stored (n - i) s (o + i) w ≡ r
+    → stored (n - (i + 1)) (set s (o + i) (w % 256)) (o + (i + 1)) (w / 256) ≡ r
 unfolding stored
 store-more n i s r o w h e =
     ap (λ (k : ℕ). stored (n - (i + 1)) (set s (o + i) (w % 256)) k (w / 256)) {x = o + (i + 1)} {y = o + i + 1} (omega arith)
@@ -29,7 +30,8 @@ pub load-none : (n : ℕ) (s : List ℕ) (o : ℕ) → 0 ≡ num (n - n) s (o + 
 unfolding num
 load-none n s o = ap (λ (k : ℕ). num k s (o + n)) {x = 0} {y = n - n} (omega arith)
 
-pub load-more : (n i : ℕ) (s : List ℕ) (o v x : ℕ) → 0 < i → i ≤ n → v ≡ num (n - i) s (o + i) → x ≡ byteAt s (o + (i - 1)) → v * 256 + x ≡ num (n - (i - 1)) s (o + (i - 1))
+pub load-more : (n i : ℕ) (s : List ℕ) (o v x : ℕ) → 0 < i → i ≤ n → v ≡ num (n - i) s (o + i)
+    → x ≡ byteAt s (o + (i - 1)) → v * 256 + x ≡ num (n - (i - 1)) s (o + (i - 1))
 unfolding num
 load-more n i s o v x p h e q =
     omega (arith, e, q, ap (λ (k : ℕ). num (n - i) s k) {x = suc (o + (i - 1))} {y = o + i} (omega arith))

@@ -63,7 +63,9 @@ num-of (suc n) s o v l e = omega (arith, first, num-of n s (suc o) (v / 256) (om
     first = ap (byteAt s) (sym (add-zero o)) ∙ e 0 (omega arith) ∙ omega arith
 
     rest : (k : ℕ) → k < n → byteAt s (suc o + k) ≡ v / 256 / 256 ^ k % 256
-    rest k h = ap (byteAt s) (suc-add o k ∙ sym (add-suc o k)) ∙ e (suc k) (omega arith) ∙ rw (pow-succ' 256 k, ← div-div-eq-div-mul v 256 (256 ^ k))
+    rest k h =
+        ap (byteAt s) (suc-add o k ∙ sym (add-suc o k)) ∙ e (suc k) (omega arith)
+        ∙ rw (pow-succ' 256 k, ← div-div-eq-div-mul v 256 (256 ^ k))
 
 -- bit k of it is bit 8 * o + k of the row
 pub num-bit : (n : ℕ) (s : List ℕ) (o k : ℕ) → Bytes s → k < 8 * n → bit (num n s o) k ≡ bitAt s (8 * o + k)
@@ -82,7 +84,8 @@ num-bit (suc n) s o k b l = rw split (go (num-bit n s (suc o) (k - 8) b) (decLt 
 
     go : (k - 8 < 8 * n → bit high (k - 8) ≡ bit (byteAt s ((8 * suc o + (k - 8)) / 8)) ((8 * suc o + (k - 8)) % 8)) → Dec (k < 8)
         → bit (high * 2 ^ 8 + low) k ≡ bit (byteAt s ((8 * o + k) / 8)) ((8 * o + k) % 8)
-    go r (yes m) = bit-low 8 high low k (b o) m ∙ ap₂ (λ (x y : ℕ). bit (byteAt s x) y) {x = o} {y = (8 * o + k) / 8} (omega arith) (omega arith)
+    go r (yes m) =
+        bit-low 8 high low k (b o) m ∙ ap₂ (λ (x y : ℕ). bit (byteAt s x) y) {x = o} {y = (8 * o + k) / 8} (omega arith) (omega arith)
     go r (no m) =
         ap (bit (high * 2 ^ 8 + low)) {x = k} {y = 8 + (k - 8)} (omega arith)
         ∙ bit-top 8 high low (k - 8) (b o)
@@ -92,12 +95,14 @@ num-bit (suc n) s o k b l = rw split (go (num-bit n s (suc o) (k - 8) b) (decLt 
 -- n bytes are 8 * n bits
 pub bytes-bits : (n : ℕ) → 256 ^ n ≡ 2 ^ (8 * n)
 bytes-bits zero = refl
-bytes-bits (suc n) = pow-succ' 256 n ∙ ap (λ (x : ℕ). 256 * x) (bytes-bits n) ∙ sym (pow-add 2 8 (8 * n)) ∙ ap (λ (k : ℕ). 2 ^ k) (omega arith)
+bytes-bits (suc n) =
+    pow-succ' 256 n ∙ ap (λ (x : ℕ). 256 * x) (bytes-bits n) ∙ sym (pow-add 2 8 (8 * n)) ∙ ap (λ (k : ℕ). 2 ^ k) (omega arith)
 
 -- the number in n bytes is the number of their bits
 pub num-pack : (n : ℕ) (s : List ℕ) (o : ℕ) → Bytes s → num n s o ≡ pack (8 * n) (λ k. bitAt s (8 * o + k))
 num-pack n s o b =
-    sym (pack-bit (8 * n) (num n s o) (rw (← bytes-bits n) (num-lt n s o b))) ∙ pack-ext (8 * n) (bit (num n s o)) (λ k. bitAt s (8 * o + k)) (λ k l. num-bit n s o k b l)
+    sym (pack-bit (8 * n) (num n s o) (rw (← bytes-bits n) (num-lt n s o b)))
+    ∙ pack-ext (8 * n) (bit (num n s o)) (λ k. bitAt s (8 * o + k)) (λ k l. num-bit n s o k b l)
 
 -- a number stored
 
@@ -116,13 +121,21 @@ pub stored-out : (n : ℕ) (s : List ℕ) (o v i : ℕ) → (o ≤ i → o + n �
 unfolding stored
 stored-out zero s o v i h = refl
 stored-out (suc n) s o v i h =
-    stored-out n (set s o (v % 256)) (o + 1) (v / 256) i (λ l. omega (arith, h (omega arith))) ∙ getD-set-other s o i (v % 256) 0 (λ e. omega (arith, h (omega arith)))
+    stored-out n (set s o (v % 256)) (o + 1) (v / 256) i (λ l. omega (arith, h (omega arith)))
+    ∙ getD-set-other s o i (v % 256) 0 (λ e. omega (arith, h (omega arith)))
 
 -- and the number is there
 pub num-stored : (n : ℕ) (s : List ℕ) (o v : ℕ) → o + n ≤ length s → v < 256 ^ n → num n (stored n s o v) o ≡ v
 unfolding stored num
 num-stored zero s o v h l = sym (lt-one l)
-num-stored (suc n) s o v h l = omega (arith, first, next, num-stored n (set s o (v % 256)) (o + 1) (v / 256) (omega (arith, length-set s o (v % 256))) (omega (arith, pow-succ' 256 n)))
+num-stored (suc n) s o v h l =
+    omega (
+      arith,
+      first,
+      next,
+      num-stored n (set s o (v % 256)) (o + 1) (v / 256) (omega (arith, length-set s o (v % 256)))
+          (omega (arith, pow-succ' 256 n)),
+    )
   where
     t : List ℕ
     t = stored n (set s o (v % 256)) (o + 1) (v / 256)
@@ -134,5 +147,7 @@ num-stored (suc n) s o v h l = omega (arith, first, next, num-stored n (set s o 
     next = ap (num n t) (omega arith)
 
 -- so its bits are those of the row there
-pub bitAt-stored : (n : ℕ) (s : List ℕ) (o v k : ℕ) → Bytes s → o + n ≤ length s → v < 256 ^ n → k < 8 * n → bitAt (stored n s o v) (8 * o + k) ≡ bit v k
-bitAt-stored n s o v k b h l m = sym (num-bit n (stored n s o v) o k (bytes-stored n s o v b) m) ∙ ap (λ (x : ℕ). bit x k) (num-stored n s o v h l)
+pub bitAt-stored : (n : ℕ) (s : List ℕ) (o v k : ℕ) → Bytes s → o + n ≤ length s → v < 256 ^ n → k < 8 * n
+    → bitAt (stored n s o v) (8 * o + k) ≡ bit v k
+bitAt-stored n s o v k b h l m =
+    sym (num-bit n (stored n s o v) o k (bytes-stored n s o v b) m) ∙ ap (λ (x : ℕ). bit x k) (num-stored n s o v h l)

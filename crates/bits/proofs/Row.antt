@@ -35,7 +35,8 @@ byte-put s a i n = getD-set-other s (a / 8) i _ 0 (λ e. n (sym e))
 -- in one byte, bits are told apart by their places in it
 same-place : (a b : ℕ) → b / 8 ≡ a / 8 → eqb (a % 8) (b % 8) ≡ eqb a b
 same-place a b e =
-    iff _ _ (λ q. let r = eqb-true (a % 8) (b % 8) q in eq-eqb a b (omega arith)) (λ q. let r = eqb-true a b q in eq-eqb (a % 8) (b % 8) (omega arith))
+    iff _ _ (λ q. let r = eqb-true (a % 8) (b % 8) q in eq-eqb a b (omega arith))
+    (λ q. let r = eqb-true a b q in eq-eqb (a % 8) (b % 8) (omega arith))
 
 -- a set bit is set, and every other bit is as it was
 pub bitAt-put : (s : List ℕ) (a b : ℕ) → a / 8 < length s → bitAt (putBit s a) b ≡ (eqb a b || bitAt s b)

@@ -16,8 +16,10 @@ use Rattle.bits.specs.Row.{zeros}
 -- a sum of bits is 0 where both are
 or-none : (a b : ℕ) → eqb (bitOr a b) 0 ≡ (eqb a 0 && eqb b 0)
 or-none a b = iff _ _
-    (λ e. let z = eqb-true (bitOr a b) 0 e in and-i _ _ (eq-eqb a 0 (omega (arith, or-add-and a b, and-le-r a b, and-le-l a b))) (eq-eqb b 0 (omega (arith, or-add-and a b, and-le-l a b))))
-    (λ e. eq-eqb (bitOr a b) 0 (let p = eqb-true a 0 (and-l (eqb a 0) (eqb b 0) e) in let q = eqb-true b 0 (and-r (eqb a 0) (eqb b 0) e) in omega (arith, or-add-and a b)))
+    (λ e. let z = eqb-true (bitOr a b) 0 e in and-i _ _ (eq-eqb a 0 (omega (arith, or-add-and a b, and-le-r a b, and-le-l a b)))
+    (eq-eqb b 0 (omega (arith, or-add-and a b, and-le-l a b))))
+    (λ e. eq-eqb (bitOr a b) 0 (let p = eqb-true a 0 (and-l (eqb a 0) (eqb b 0) e) in let q = eqb-true b 0
+    (and-r (eqb a 0) (eqb b 0) e) in omega (arith, or-add-and a b)))
 
 -- one number more
 pub gather-more : (f : ℕ → Bool) (i sum x : ℕ) → eqb sum 0 ≡ every i f → eqb x 0 ≡ f i → eqb (bitOr sum x) 0 ≡ every (i + 1) f

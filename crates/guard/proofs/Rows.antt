@@ -35,9 +35,14 @@ and-common a b p q = iff _ _ to from
     to : not (eqb (bitAnd a b) 0) ≡ true → any 64 (λ y. bit a y && bit b y) ≡ true
     to n = go (either (any 64 (λ y. bit a y && bit b y)))
       where
-        go : (any 64 (λ y. bit a y && bit b y) ≡ true) ⊎ (any 64 (λ y. bit a y && bit b y) ≡ false) → any 64 (λ y. bit a y && bit b y) ≡ true
+        go : (any 64 (λ y. bit a y && bit b y) ≡ true) ⊎ (any 64 (λ y. bit a y && bit b y) ≡ false)
+            → any 64 (λ y. bit a y && bit b y) ≡ true
         go (inl e) = e
-        go (inr e) = split n (not-false-of (eq-eqb (bitAnd a b) 0 (bit-ext 64 (bitAnd a b) 0 (and-lt 64 a b p q) (omega arith) (λ k l. bit-and a b k ∙ is-false _ (λ t. split (any-at (λ y. bit a y && bit b y) k 64 l t) e) ∙ sym (bit-none k)))))
+        go (inr e) =
+            split n
+            (not-false-of (eq-eqb (bitAnd a b) 0
+            (bit-ext 64 (bitAnd a b) 0 (and-lt 64 a b p q) (omega arith)
+            (λ k l. bit-and a b k ∙ is-false _ (λ t. split (any-at (λ y. bit a y && bit b y) k 64 l t) e) ∙ sym (bit-none k)))))
           where
             not-false-of : eqb (bitAnd a b) 0 ≡ true → not (eqb (bitAnd a b) 0) ≡ false
             not-false-of t = rw t
@@ -65,15 +70,21 @@ module _ (h : Head) (s : List ℕ) (R : Ready h s) (row j : ℕ) where
           let f = any-found 64 (λ y. bit (heldOf (contents s) j q) y && bit row y) e in
           let y = f .0 in
           let held : holds q y ≡ true = sym (held-bit q y (f .1)) ∙ and-l (bit (heldOf (contents s) j q) y) _ (f .2) in
-          any-at (λ y. holds q y && bit row y) y (h .items) (R .good noClash .valid .sets .holds j q y held .1 .1) (and-i _ _ held (and-r (bit (heldOf (contents s) j q) y) _ (f .2)))
+          any-at (λ y. holds q y && bit row y) y (h .items) (R .good noClash .valid .sets .holds j q y held .1 .1)
+          (and-i _ _ held (and-r (bit (heldOf (contents s) j q) y) _ (f .2)))
 
       from : any (h .items) (λ y. holds q y && bit row y) ≡ true → any 64 (λ y. bit (heldOf (contents s) j q) y && bit row y) ≡ true
       from e =
           let f = any-found (h .items) (λ y. holds q y && bit row y) e in
           let y = f .0 in
           let l : y < 64 = omega (arith, f .1, R .room .items) in
-          any-at (λ y. bit (heldOf (contents s) j q) y && bit row y) y 64 l (and-i _ _ (held-bit q y l ∙ and-l (holds q y) _ (f .2)) (and-r (holds q y) _ (f .2)))
+          any-at (λ y. bit (heldOf (contents s) j q) y && bit row y) y 64 l
+          (and-i _ _ (held-bit q y l ∙ and-l (holds q y) _ (f .2)) (and-r (holds q y) _ (f .2)))
 
-  pub clash-common : (x : ℕ) {r : Bool} → r ≡ any (h .periods) (holdsOf (contents s) row j) → r ≡ clashing (tableOf h (inRow row)) (stateOf (contents s) .held j) x
+  pub clash-common : (x : ℕ) {r : Bool} → r ≡ any (h .periods) (holdsOf (contents s) row j)
+      → r ≡ clashing (tableOf h (inRow row)) (stateOf (contents s) .held j) x
   unfolding clashing holdsOf
-  clash-common x e = e ∙ any-ext (h .periods) (λ q. inCommon (heldOf (contents s) j q) row) (λ q. any (h .items) (λ y. holds q y && bit row y)) (λ q l. row-common q)
+  clash-common x e =
+      e
+      ∙ any-ext (h .periods) (λ q. inCommon (heldOf (contents s) j q) row) (λ q. any (h .items) (λ y. holds q y && bit row y))
+      (λ q l. row-common q)

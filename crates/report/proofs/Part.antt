@@ -23,7 +23,8 @@ module _ (h : Head) {l : List ℕ} {a : ℕ} (x : Entry) (k p B : ℕ) where
   unfolding entryLine
   backing-hidden e = rw e none
 
-pub board-shown : (h : Head) {l l₁ : List ℕ} {a a₁ : ℕ} (x : Entry) (p B : ℕ) → x ≡ Board p B → Wrote l a (boardLine (h .items) p B) l₁ a₁ → Wrote l a (entryLine h x) l₁ a₁
+pub board-shown : (h : Head) {l l₁ : List ℕ} {a a₁ : ℕ} (x : Entry) (p B : ℕ) → x ≡ Board p B
+    → Wrote l a (boardLine (h .items) p B) l₁ a₁ → Wrote l a (entryLine h x) l₁ a₁
 unfolding entryLine
 board-shown h x p B e w = rw e w
 

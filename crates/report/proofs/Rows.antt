@@ -70,7 +70,9 @@ row-same : (s : List ℕ) (j p : ℕ) → rowIn (databaseOf (contents s) j) p �
 unfolding rowIn databaseOf
 row-same s j p = go (decLt p periods)
   where
-    go : Dec (p < periods) → cond (ltb p periods) (getD (tab periods (rowOf (contents s) j)) p []) (replicate items (record { 0 = 0 })) ≡ rowOf (contents s) j p
+    go : Dec (p < periods)
+        → cond (ltb p periods) (getD (tab periods (rowOf (contents s) j)) p []) (replicate items (record { 0 = 0 })) ≡ rowOf
+        (contents s) j p
     go (yes l) = rw (lt-ltb p periods l) (getD-tab periods (rowOf (contents s) j) p [] l)
     go (no l) = rw (le-ltb p periods (omega arith)) (no-row s j p (omega arith))
 
@@ -80,7 +82,9 @@ items-same h c j p few =
     each-same (λ x. setLine j p x (getD (tab items (signersOf c j p)) x (record { 0 = 0 }))) (dbItem c j p) (h .items)
     (λ x l. set-same c j p x _ (getD-tab items (signersOf c j p) x (record { 0 = 0 }) (omega arith)))
 
-pub period-shown : (h : Head) (s : List ℕ) (j p : ℕ) (d : List (List Signers)) (r : List Signers) {l l₁ : List ℕ} {a a₁ : ℕ} → h .items ≤ items
+pub period-shown : (h : Head) (s : List ℕ) (j p : ℕ) (d : List (List Signers)) (r : List Signers) {l l₁ : List ℕ} {a a₁ : ℕ}
+    → h .items ≤ items
     → d ≡ databaseOf (contents s) j → r ≡ rowIn d p → Wrote l a (rowLines h r j p) l₁ a₁ → Wrote l a (dbPeriod h (contents s) j p) l₁ a₁
 period-shown h s j p d r few e q w =
-    renamed (ap (λ (x : List Signers). rowLines h x j p) (q ∙ ap (λ (x : List (List Signers)). rowIn x p) e ∙ row-same s j p) ∙ items-same h (contents s) j p few) w
+    renamed (ap (λ (x : List Signers). rowLines h x j p) (q ∙ ap (λ (x : List (List Signers)). rowIn x p) e ∙ row-same s j p) ∙ items-same h
+    (contents s) j p few) w

@@ -30,7 +30,8 @@ pub each-most : (f : ℕ → List ℕ) (c n m : ℕ) → n ≤ m → ((k : ℕ) 
 unfolding each
 each-most f c zero m l h = omega arith
 each-most f c (suc n) zero l h = omega arith
-each-most f c (suc n) (suc m) l h = rw length-append (omega (arith, each-most f c n m (omega arith) (λ k b. h k (omega arith)), h n (omega arith)))
+each-most f c (suc n) (suc m) l h =
+    rw length-append (omega (arith, each-most f c n m (omega arith) (λ k b. h k (omega arith)), h n (omega arith)))
 
 if-most : (b : Bool) (t : List ℕ) (c : ℕ) → length t ≤ c → length (cond b t []) ≤ c
 if-most true t c h = h
@@ -44,7 +45,8 @@ refused-most r l = simp length-append (omega (arith, field-most 1 r (omega arith
 
 pub head-most : (n t h : ℕ) → n < 100 → t < 100 → h < 100 → length (headLine n t h) ≤ 32
 unfolding headLine
-head-most n t h a b c = simp length-append (omega (arith, field-most 1 n (omega arith), field-most 1 t (omega arith), field-most 1 h (omega arith)))
+head-most n t h a b c =
+    simp length-append (omega (arith, field-most 1 n (omega arith), field-most 1 t (omega arith), field-most 1 h (omega arith)))
 
 pub step-most : (k a : ℕ) → k < 10000 → a < 100 → length (stepLine k a) ≤ 8
 unfolding stepLine
@@ -88,7 +90,9 @@ module _ (h : Head) (few-peers : h .n ≤ 16) (few-periods : h .periods ≤ 8) (
 
   board-most : (p B : ℕ) → p < 1000 → length (boardLine (h .items) p B) ≤ 202
   unfolding boardLine
-  board-most p B l = simp length-append (omega (arith, field-most 2 p (omega arith), each-most (boardItem B) 3 (h .items) 64 few-items (λ x m. item-most B x (omega arith))))
+  board-most p B l =
+      simp length-append
+      (omega (arith, field-most 2 p (omega arith), each-most (boardItem B) 3 (h .items) 64 few-items (λ x m. item-most B x (omega arith))))
 
   entry-most : (x : Entry) → periodOf x < 1000 → length (entryLine h x) ≤ 202
   unfolding entryLine
@@ -97,8 +101,15 @@ module _ (h : Head) (few-peers : h .n ≤ 16) (few-periods : h .periods ≤ 8) (
   entry-most (Board p B) l = board-most p B l
 
   -- a bag of at most 256 entries, with small periods
-  pub state-most : length (c .bag) ≤ 256 → ((e : ℕ) → e < length (c .bag) → periodOf (entryAt (c .bag) e) < 1000) → length (stateLines h c) ≤ 181252
+  pub state-most : length (c .bag) ≤ 256 → ((e : ℕ) → e < length (c .bag) → periodOf (entryAt (c .bag) e) < 1000)
+      → length (stateLines h c) ≤ 181252
   unfolding stateLines boardLines bagLine
   state-most few small =
       simp length-append
-      (omega (arith, dbs-most, receipts-most, each-most (bagLine h c) 202 (length (c .bag)) 256 few (λ e l. entry-most (entryAt (c .bag) e) (small e l))))
+      (omega (
+        arith,
+        dbs-most,
+        receipts-most,
+        each-most (bagLine h c) 202 (length (c .bag)) 256 few
+            (λ e l. entry-most (entryAt (c .bag) e) (small e l)),
+      ))

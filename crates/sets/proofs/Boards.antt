@@ -28,7 +28,8 @@ board-lt f i b e = rw e (pack-lt i f)
 
 module _ (h : Head) (c : Contents) (j p : ℕ) where
   -- an item of the row
-  row-reaches : (i : ℕ) (sets : List Signers) {y : Bool} → sets ≡ rowOf c j p → i < items → y ≡ reaches h (set sets i .0) → y ≡ onBoard h c j p i
+  row-reaches : (i : ℕ) (sets : List Signers) {y : Bool} → sets ≡ rowOf c j p → i < items
+      → y ≡ reaches h (set sets i .0) → y ≡ onBoard h c j p i
   unfolding onBoard rowOf
   row-reaches i sets e l y-is =
       let same = ap (λ (l : List Signers). set l i) e ∙ getD-tab items (signersOf c j p) i (record { 0 = 0 }) l in

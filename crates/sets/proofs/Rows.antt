@@ -42,7 +42,8 @@ and-or true true x y z e = e
 and-or true false x y z e = refl
 and-or false b x y z e = refl
 
-known-both : (j p : ℕ) (S T U : ℕ → ℕ → Bool) → ((i k : ℕ) → (S i k || T i k) ≡ U i k) → (f : Fact) → (knownTo j p S f || knownTo j p T f) ≡ knownTo j p U f
+known-both : (j p : ℕ) (S T U : ℕ → ℕ → Bool) → ((i k : ℕ) → (S i k || T i k) ≡ U i k) → (f : Fact)
+    → (knownTo j p S f || knownTo j p T f) ≡ knownTo j p U f
 unfolding knownTo
 known-both j p S T U e (Posted i) = refl
 known-both j p S T U e (Signed k q i) = refl
@@ -62,7 +63,9 @@ unfolding onItem onRow
 row-step sets n i k = go (ℕ-discrete i n)
   where
     below : (i ≡ n → ⊥) → ltb i n ≡ ltb i (n + 1)
-    below d = iff _ _ (λ q. let l = ltb-true i n q in lt-ltb i (n + 1) (omega arith)) (λ q. let l = ltb-true i (n + 1) q in lt-ltb i n (omega arith))
+    below d =
+        iff _ _ (λ q. let l = ltb-true i n q in lt-ltb i (n + 1) (omega arith))
+        (λ q. let l = ltb-true i (n + 1) q in lt-ltb i n (omega arith))
 
     go : Dec (i ≡ n) → ((eqb i n && inSet (set sets n) k) || (ltb i n && inSet (set sets i) k)) ≡ (ltb i (n + 1) && inSet (set sets i) k)
     go (yes e) = rw (eq-eqb i n e, le-ltb i n (omega arith), lt-ltb i (n + 1) (omega arith), e) (or-false (inSet (set sets n) k))
@@ -71,14 +74,22 @@ row-step sets n i k = go (ℕ-discrete i n)
 no-row : (j p : ℕ) (sets : List Signers) (f : Fact) → knownTo j p (onRow sets 0) f ≡ false
 unfolding onRow
 no-row j p sets f =
-    is-false (knownTo j p (onRow sets 0) f) (λ e. let w = known-is j p (onRow sets 0) f e in let l = ltb-true (w .0) 0 (and-l (ltb (w .0) 0) (inSet (set sets (w .0)) (w .1)) (w .3)) in omega arith)
+    is-false (knownTo j p (onRow sets 0) f)
+    (λ e. let w = known-is j p (onRow sets 0) f e in let l = ltb-true (w .0) 0
+    (and-l (ltb (w .0) 0) (inSet (set sets (w .0)) (w .1)) (w .3)) in omega arith)
 
 pub row-none : (s : List ℕ) (j p : ℕ) (sets : List Signers) → Canon s → Holds s (adding (knownTo j p (onRow sets 0)) (contents s))
 unfolding adding
 row-none s j p sets c =
     record {
       canon = c;
-      says = λ x. record { has = fun-ext (λ f. ap (λ (b : Bool). b || contents s .has f) (sym (no-row j p sets f))) x; number = contents s .number; bag = contents s .bag };
+      says =
+          λ x. record {
+            has = fun-ext (λ f. ap (λ (b : Bool). b || contents s .has f)
+                (sym (no-row j p sets f))) x;
+            number = contents s .number;
+            bag = contents s .bag;
+          };
     }
 
 pub row-more : (s t : List ℕ) (c : Contents) (j p n : ℕ) (sets : List Signers) → Holds s (adding (knownTo j p (onRow sets n)) c)
@@ -92,13 +103,15 @@ row-more s t c j p n sets h k =
           ∙ adding-both _ _ _ c (known-both j p (onItem n (set sets n)) (onRow sets n) (onRow sets (n + 1)) (row-step sets n));
     }
 
-pub row-end : (s : List ℕ) (c : Contents) (j p n : ℕ) (sets : List Signers) → n ≤ items → items ≤ n → Holds s (adding (knownTo j p (onRow sets n)) c)
+pub row-end : (s : List ℕ) (c : Contents) (j p n : ℕ) (sets : List Signers) → n ≤ items → items ≤ n
+    → Holds s (adding (knownTo j p (onRow sets n)) c)
     → Holds s (adding (knownTo j p (onRow sets items)) c)
 row-end s c j p n sets l m h = subst (λ (k : ℕ). Holds s (adding (knownTo j p (onRow sets k)) c)) (omega arith) h
 
 -- the other's row has what the other's database has
 
-member : (c : Contents) (other p i k : ℕ) → i < items → Peer k → bit (set (tab items (signersOf c other p)) i) (k - 1) ≡ c .has (Known other p i k)
+member : (c : Contents) (other p i k : ℕ) → i < items → Peer k
+    → bit (set (tab items (signersOf c other p)) i) (k - 1) ≡ c .has (Known other p i k)
 unfolding signersOf
 member c other p i k l q =
     ap (λ (x : Signers). bit (x .0) (k - 1)) (getD-tab items (signersOf c other p) i (record { 0 = 0 }) l)
@@ -131,5 +144,8 @@ module _ (s : List ℕ) (other p : ℕ) where
   fetch-done t j sets e h =
       record {
         canon = h .canon;
-        says = h .says ∙ ap (λ (S : ℕ → ℕ → Bool). adding (knownTo j p S) (contents s)) (ap (λ (l : List Signers). onRow l items) e ∙ fun-ext (λ i. fun-ext (λ k. row-has i k)));
+        says =
+            h .says
+            ∙ ap (λ (S : ℕ → ℕ → Bool). adding (knownTo j p S) (contents s))
+            (ap (λ (l : List Signers). onRow l items) e ∙ fun-ext (λ i. fun-ext (λ k. row-has i k)));
       }

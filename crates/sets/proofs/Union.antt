@@ -34,8 +34,13 @@ known-is j p S (Receipted q i) e = false-true e
 known-is j p S (Held k q i) e = false-true e
 known-is j p S (Heard k i) e = false-true e
 known-is j p S (Known k q i l) e =
-    let r = and-r (eqb k j) (eqb q p && S i l) e in
-    (i, l, ap₂ (λ (a b : ℕ). Known a b i l) (eqb-true k j (and-l (eqb k j) (eqb q p && S i l) e)) (eqb-true q p (and-l (eqb q p) (S i l) r)), and-r (eqb q p) (S i l) r)
+    let r = and-r (eqb k j) (eqb q p && S i l) e in (
+      i,
+      l,
+      ap₂ (λ (a b : ℕ). Known a b i l) (eqb-true k j (and-l (eqb k j) (eqb q p && S i l) e))
+          (eqb-true q p (and-l (eqb q p) (S i l) r)),
+      and-r (eqb q p) (S i l) r,
+    )
 
 known-here : (j p : ℕ) (S : ℕ → ℕ → Bool) (i k : ℕ) → knownTo j p S (Known j p i k) ≡ S i k
 unfolding knownTo
@@ -67,7 +72,8 @@ module _ (s : List ℕ) (j p i v : ℕ) (c : Canon s) (h : Spot j p i) (small : 
   new-here k q = known-here j p (onItem i v) i k ∙ rw (eqb-self i, within-peer k q)
 
   room : (f : Fact) → new f ≡ true → inRange f ≡ true
-  room f e = let w = new-is f e in subst (λ (g : Fact). inRange g ≡ true) (sym (w .1)) (within-range (Known j p i (w .0)) (h .0, (w .2, h .1)))
+  room f e =
+      let w = new-is f e in subst (λ (g : Fact). inRange g ≡ true) (sym (w .1)) (within-range (Known j p i (w .0)) (h .0, (w .2, h .1)))
 
   -- a bit of the word
   inside : (k : ℕ) → Peer k → bitAt t (place (Known j p i k)) ≡ (new (Known j p i k) || bitAt s (place (Known j p i k)))
@@ -84,7 +90,8 @@ module _ (s : List ℕ) (j p i v : ℕ) (c : Canon s) (h : Spot j p i) (small : 
 
   -- a fact whose bit stands in the word
   in-word : (f : Fact) → Within f → o ≤ place f / 8 → place f / 8 < o + peerBytes → f ≡ Known j p i (place f - 8 * o + 1)
-  in-word f w l m = sym (fact-at f w) ∙ ap factAt here ∙ fact-at (Known j p i (place f - 8 * o + 1)) (h .0, ((omega arith, omega arith), h .1))
+  in-word f w l m =
+      sym (fact-at f w) ∙ ap factAt here ∙ fact-at (Known j p i (place f - 8 * o + 1)) (h .0, ((omega arith, omega arith), h .1))
     where
       here : place f ≡ place (Known j p i (place f - 8 * o + 1))
       here = omega arith
@@ -106,7 +113,8 @@ module _ (s : List ℕ) (j p i v : ℕ) (c : Canon s) (h : Spot j p i) (small : 
 
 -- as the code has it
 pub join-done : (s t : List ℕ) (j p i n : ℕ) (x : Signers) → Canon s → Spot j p i → n ≡ spot j p i
-    → (t ≡ joined peerBytes s (databaseAt + peerBytes * n) (x .0)) × (x .0 < 2 ^ peers) → Holds t (adding (knownTo j p (onItem i (x .0))) (contents s))
+    → (t ≡ joined peerBytes s (databaseAt + peerBytes * n) (x .0)) × (x .0 < 2 ^ peers)
+    → Holds t (adding (knownTo j p (onItem i (x .0))) (contents s))
 join-done s t j p i n x c h at q =
     subst (λ (r : List ℕ). Holds r (adding (knownTo j p (onItem i (x .0))) (contents s)))
     (sym (q .0 ∙ ap (λ (m : ℕ). joined peerBytes s (databaseAt + peerBytes * m) (x .0)) at))

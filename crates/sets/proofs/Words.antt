@@ -40,27 +40,42 @@ facts-out s n f out = pack-none n (λ k. contents s .has (f k)) (λ k. has-none 
 
 module _ (s : List ℕ) (b : Bool) where
   module _ (j p i : ℕ) (e : b ≡ isSpot j p i) where
-    pub signers-in : Canon s → b ≡ true → (o w : ℕ) → o ≡ spot j p i → w ≡ num peerBytes s (databaseAt + peerBytes * o) → _≡_ {A = Signers} (record { 0 = w }) (signersOf (contents s) j p i)
+    pub signers-in : Canon s → b ≡ true → (o w : ℕ) → o ≡ spot j p i → w ≡ num peerBytes s (databaseAt + peerBytes * o)
+        → _≡_ {A = Signers} (record { 0 = w }) (signersOf (contents s) j p i)
     unfolding signersOf
     signers-in c y o w at q =
         let h = spot-within j p i (sym e ∙ y) in
-        λ x. record { 0 = (q ∙ facts-in s peerBytes (databaseAt + peerBytes * o) (λ k. Known j p i (k + 1)) c (λ k l. ((h .0, ((omega arith, omega arith), h .1)), omega arith))) x }
+        λ x. record {
+          0 = (q ∙ facts-in s peerBytes (databaseAt + peerBytes * o) (λ k. Known j p i (k + 1)) c
+              (λ k l. ((h .0, ((omega arith, omega arith), h .1)), omega arith))) x;
+        }
 
     pub signers-out : b ≡ false → _≡_ {A = Signers} (record { 0 = 0 }) (signersOf (contents s) j p i)
     unfolding signersOf
     signers-out n =
-        λ x. record { 0 = facts-out s peers (λ k. Known j p i (k + 1)) (λ k r. let h = range-within (Known j p i (k + 1)) r in split (within-spot j p i (h .0, h .1 .1)) (sym e ∙ n)) x }
+        λ x. record {
+          0 = facts-out s peers (λ k. Known j p i (k + 1))
+              (λ k r. let h = range-within (Known j p i (k + 1)) r in split (within-spot j p i (h .0, h .1 .1)) (sym e ∙ n)) x;
+        }
 
   module _ (p i : ℕ) (e : b ≡ isCell p i) where
-    pub sharers-in : Canon s → b ≡ true → (o w : ℕ) → o ≡ cell p i → w ≡ num peerBytes s (sharedAt + peerBytes * o) → _≡_ {A = Sharers} (record { 0 = w }) (sharersOf (contents s) p i)
+    pub sharers-in : Canon s → b ≡ true → (o w : ℕ) → o ≡ cell p i → w ≡ num peerBytes s (sharedAt + peerBytes * o)
+        → _≡_ {A = Sharers} (record { 0 = w }) (sharersOf (contents s) p i)
     unfolding sharersOf
     sharers-in c y o w at q =
         let h = cell-within p i (sym e ∙ y) in
-        λ x. record { 0 = (q ∙ facts-in s peerBytes (sharedAt + peerBytes * o) (λ k. Shared (k + 1) p i) c (λ k l. (((omega arith, omega arith), h), omega arith))) x }
+        λ x. record {
+          0 = (q ∙ facts-in s peerBytes (sharedAt + peerBytes * o) (λ k. Shared (k + 1) p i) c
+              (λ k l. (((omega arith, omega arith), h), omega arith))) x;
+        }
 
     pub sharers-out : b ≡ false → _≡_ {A = Sharers} (record { 0 = 0 }) (sharersOf (contents s) p i)
     unfolding sharersOf
-    sharers-out n = λ x. record { 0 = facts-out s peers (λ k. Shared (k + 1) p i) (λ k r. split (within-cell p i (range-within (Shared (k + 1) p i) r .1)) (sym e ∙ n)) x }
+    sharers-out n =
+        λ x. record {
+          0 = facts-out s peers (λ k. Shared (k + 1) p i)
+              (λ k r. split (within-cell p i (range-within (Shared (k + 1) p i) r .1)) (sym e ∙ n)) x;
+        }
 
   module _ (j p : ℕ) (e : b ≡ isRow j p) where
     pub held-in : Canon s → b ≡ true → (o w : ℕ) → o ≡ row j p → w ≡ num itemBytes s (heldAt + itemBytes * o) → w ≡ heldOf (contents s) j p
@@ -71,7 +86,8 @@ module _ (s : List ℕ) (b : Bool) where
 
     pub held-out : b ≡ false → 0 ≡ heldOf (contents s) j p
     unfolding heldOf
-    held-out n = facts-out s items (Held j p) (λ k r. let h = range-within (Held j p k) r in split (within-row j p (h .0, h .1 .0)) (sym e ∙ n))
+    held-out n =
+        facts-out s items (Held j p) (λ k r. let h = range-within (Held j p k) r in split (within-row j p (h .0, h .1 .0)) (sym e ∙ n))
 
 pub posted-inside : (s : List ℕ) → Canon s → num itemBytes s postedAt ≡ postedOf (contents s)
 unfolding postedOf

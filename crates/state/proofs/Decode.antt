@@ -70,7 +70,9 @@ module _ (c : Contents) where
   count-byte k l =
       let b = countAt + k in
       byte b (omega arith)
-      ∙ after b currentAt _ _ _ (omega arith) (after b countAt _ _ _ (omega arith) (before b bagAt _ _ _ (omega arith) (ap (λ (n : ℕ). length (c .bag) / 256 ^ n % 256) (omega arith))))
+      ∙ after b currentAt _ _ _ (omega arith)
+      (after b countAt _ _ _ (omega arith)
+      (before b bagAt _ _ _ (omega arith) (ap (λ (n : ℕ). length (c .bag) / 256 ^ n % 256) (omega arith))))
 
   bag-byte : (b : ℕ) → bagAt ≤ b → b < size → byteAt s b ≡ bagByte (c .bag) ((b - bagAt) / entrySize) ((b - bagAt) % entrySize)
   unfolding stateByte
@@ -91,7 +93,8 @@ module _ (c : Contents) where
             by-test Is b currentAt _ _ (λ h. pack-lt 8 (λ k. c .has (factAt (8 * b + k)))) (λ h0.
             by-test Is b countAt _ _ (λ h. fits .small (numberOf b)) (λ h1.
             by-test Is b bagAt _ _ (λ h. omega arith) (λ h2.
-            by-test Is ((b - bagAt) / entrySize) (length (c .bag)) _ _ (λ h. entry-byte-lt _ _ (fits .entry ((b - bagAt) / entrySize) h)) (λ h. omega arith)))))
+            by-test Is ((b - bagAt) / entrySize) (length (c .bag)) _ _ (λ h. entry-byte-lt _ _ (fits .entry ((b - bagAt) / entrySize) h))
+            (λ h. omega arith)))))
 
     counted : count s ≡ length (c .bag)
     counted = num-of countBytes s countAt (length (c .bag)) (omega (arith, fits .counted)) count-byte
@@ -163,7 +166,8 @@ module _ (c : Contents) where
         rw (e, fact-byte (a / 8) (omega (arith, place-lt f w)), bit-pack 8 (λ k. c .has (factAt (8 * (a / 8) + k))) (a % 8) (omega arith))
         (ap (λ (n : ℕ). c .has (factAt n)) {x = 8 * (a / 8) + a % 8} {y = a} (omega arith) ∙ ap (c .has) (fact-at f w))
 
-    value : (n : Number) → (isPeer (peerOf n) ≡ true) ⊎ (isPeer (peerOf n) ≡ false) → cond (isPeer (peerOf n)) (byteAt s (slot n)) 0 ≡ c .number n
+    value : (n : Number) → (isPeer (peerOf n) ≡ true) ⊎ (isPeer (peerOf n) ≡ false)
+        → cond (isPeer (peerOf n)) (byteAt s (slot n)) 0 ≡ c .number n
     value n (inr e) = rw e (sym (fits .others n e))
     value n (inl e) =
         let w = peer-within (peerOf n) e in
@@ -171,7 +175,9 @@ module _ (c : Contents) where
         rw e (slot-byte (slot n) (r .0) (r .1) ∙ ap (c .number) (number-at n w))
 
     bag : tab (count s) (entryAt s) ≡ c .bag
-    bag = ap (λ (n : ℕ). tab n (entryAt s)) counted ∙ tab-ext (length (c .bag)) (entryAt s) (nth (c .bag)) entry-there ∙ tab-getD (c .bag) noEntry
+    bag =
+        ap (λ (n : ℕ). tab n (entryAt s)) counted ∙ tab-ext (length (c .bag)) (entryAt s) (nth (c .bag)) entry-there
+        ∙ tab-getD (c .bag) noEntry
 
     pub encode-holds : Holds (encode c) c
     unfolding contents

@@ -61,7 +61,8 @@ module _ (s : List ℕ) (c : Canon s) where
 
   -- a byte of numbers
   slot-byte : (b : ℕ) → currentAt ≤ b → b < countAt → contents s .number (numberOf b) ≡ byteAt s b
-  slot-byte b l h = let n = at-slot b l h in sym (number-byte s (numberOf b) (within-peer (peerOf (numberOf b)) (n .0))) ∙ ap (byteAt s) (n .1)
+  slot-byte b l h =
+      let n = at-slot b l h in sym (number-byte s (numberOf b) (within-peer (peerOf (numberOf b)) (n .0))) ∙ ap (byteAt s) (n .1)
 
   -- a byte of the count
   count-byte : (b : ℕ) → countAt ≤ b → b < bagAt → length (contents s .bag) / 256 ^ (b - countAt) % 256 ≡ byteAt s b
@@ -74,7 +75,8 @@ module _ (s : List ℕ) (c : Canon s) where
       by-test Is o signerIn _ _ (λ h0. sym (c .settled e l .kind) ∙ ap (byteAt s) (omega arith)) (λ h0.
       by-test Is o periodIn _ _ (λ h1. sym (c .settled e l .signer) ∙ ap (byteAt s) (omega arith)) (λ h1.
       by-test Is o boardIn _ _ (λ h2. entry-period s e ∙ ap (byteAt s) (omega arith)) (λ h2.
-      rw (entry-board s e) (num-byte itemBytes s (entryStart e + boardIn) (o - boardIn) (c .bytes) (omega arith) ∙ ap (byteAt s) (omega arith)))))
+      rw (entry-board s e) (num-byte itemBytes s (entryStart e + boardIn) (o - boardIn) (c .bytes) (omega arith) ∙ ap (byteAt s)
+      (omega arith)))))
     where
       Is : ℕ → Type 0
       Is v = v ≡ byteAt s (entryStart e + o)

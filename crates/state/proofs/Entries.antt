@@ -25,7 +25,8 @@ kind-lt (Backing k p b) = omega arith
 kind-lt (Board p b) = omega arith
 
 module _ (kind signer period board : ℕ) where
-  either-kind : (P : Entry → Type 0) → P (Hash signer period board) → P (Backing signer period board) → P (Board period board) → P (entryOf kind signer period board)
+  either-kind : (P : Entry → Type 0) → P (Hash signer period board) → P (Backing signer period board)
+      → P (Board period board) → P (entryOf kind signer period board)
   unfolding entryOf
   either-kind P h b d = go (eqb kind 1) (eqb kind 2)
     where

@@ -67,18 +67,23 @@ module _ (t s : List ℕ) where
   has-same same f = go (either (inRange f))
     where
       go : (inRange f ≡ true) ⊎ (inRange f ≡ false) → (inRange f && bitAt t (place f)) ≡ (inRange f && bitAt s (place f))
-      go (inl e) = ap (λ (b : Bool). inRange f && b) (bitAt-same t s (place f) (same (place f / 8) (omega (arith, place-lt f (range-within f e)))))
+      go (inl e) =
+          ap (λ (b : Bool). inRange f && b) (bitAt-same t s (place f) (same (place f / 8) (omega (arith, place-lt f (range-within f e)))))
       go (inr e) = rw e
 
-  pub number-same : ((i : ℕ) → currentAt ≤ i → i < countAt → byteAt t i ≡ byteAt s i) → (n : Number) → contents t .number n ≡ contents s .number n
+  pub number-same : ((i : ℕ) → currentAt ≤ i → i < countAt → byteAt t i ≡ byteAt s i) → (n : Number)
+      → contents t .number n ≡ contents s .number n
   unfolding contents
   number-same same n = go (either (isPeer (peerOf n)))
     where
-      go : (isPeer (peerOf n) ≡ true) ⊎ (isPeer (peerOf n) ≡ false) → cond (isPeer (peerOf n)) (byteAt t (slot n)) 0 ≡ cond (isPeer (peerOf n)) (byteAt s (slot n)) 0
-      go (inl e) = let w = slot-within n (peer-within (peerOf n) e) in ap (λ (v : ℕ). cond (isPeer (peerOf n)) v 0) (same (slot n) (w .0) (w .1))
+      go : (isPeer (peerOf n) ≡ true) ⊎ (isPeer (peerOf n) ≡ false)
+          → cond (isPeer (peerOf n)) (byteAt t (slot n)) 0 ≡ cond (isPeer (peerOf n)) (byteAt s (slot n)) 0
+      go (inl e) =
+          let w = slot-within n (peer-within (peerOf n) e) in ap (λ (v : ℕ). cond (isPeer (peerOf n)) v 0) (same (slot n) (w .0) (w .1))
       go (inr e) = rw e
 
-  pub entry-same : (e : ℕ) → ((i : ℕ) → entryStart e ≤ i → i < entryStart e + entrySize → byteAt t i ≡ byteAt s i) → entryAt t e ≡ entryAt s e
+  pub entry-same : (e : ℕ) → ((i : ℕ) → entryStart e ≤ i → i < entryStart e + entrySize → byteAt t i ≡ byteAt s i)
+      → entryAt t e ≡ entryAt s e
   unfolding entryAt
   entry-same e same =
       rw (
@@ -88,7 +93,8 @@ module _ (t s : List ℕ) where
         num-ext itemBytes t s (entryStart e + boardIn) (λ i p q. same i (omega arith) (omega arith)),
       )
 
-  pub settled-same : (e : ℕ) → ((i : ℕ) → entryStart e ≤ i → i < entryStart e + entrySize → byteAt t i ≡ byteAt s i) → Settled s e → Settled t e
+  pub settled-same : (e : ℕ) → ((i : ℕ) → entryStart e ≤ i → i < entryStart e + entrySize → byteAt t i ≡ byteAt s i)
+      → Settled s e → Settled t e
   settled-same e same w =
       record {
         kind = rw (entry-same e same, same (entryStart e) (omega arith) (omega arith)) (w .kind);
@@ -102,7 +108,9 @@ module _ (t s : List ℕ) where
 
     pub bag-same : contents t .bag ≡ contents s .bag
     unfolding contents
-    bag-same = ap (λ (n : ℕ). tab n (entryAt t)) count-same ∙ tab-ext (count s) (entryAt t) (entryAt s) (λ e l. entry-same e (λ i p q. same i (omega arith)))
+    bag-same =
+        ap (λ (n : ℕ). tab n (entryAt t)) count-same
+        ∙ tab-ext (count s) (entryAt t) (entryAt s) (λ e l. entry-same e (λ i p q. same i (omega arith)))
 
     pub canon-same : Canon s → length t ≡ length s → Bytes t → Canon t
     canon-same c l b =

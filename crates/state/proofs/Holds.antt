@@ -41,7 +41,8 @@ adding-holds s t new c long bytes same room bits =
           };
     }
   where
-    member : (f : Fact) → (inRange f ≡ true) ⊎ (inRange f ≡ false) → (inRange f && bitAt t (place f)) ≡ (new f || (inRange f && bitAt s (place f)))
+    member : (f : Fact) → (inRange f ≡ true) ⊎ (inRange f ≡ false)
+        → (inRange f && bitAt t (place f)) ≡ (new f || (inRange f && bitAt s (place f)))
     member f (inl e) = rw e (bits f e)
     member f (inr e) = rw (e, is-false (new f) (λ n. split (room f n) e))
 
@@ -52,20 +53,24 @@ put-holds s f c e =
     adding-holds s (putBit s (place f)) (λ g. sameFact g f) c (length-put s (place f)) (bytes-put s (place f) (c .bytes))
     (λ i l. byte-put s (place f) i (λ q. omega (arith, before)))
     (λ g n. ap inRange (fact-same g f n) ∙ e)
-    (λ g q. bitAt-put s (place f) (place g) (omega (arith, before, c .long)) ∙ ap (λ (b : Bool). b || bitAt s (place g)) (same-place f g e q))
+    (λ g q. bitAt-put s (place f) (place g) (omega (arith, before, c .long)) ∙ ap (λ (b : Bool). b || bitAt s (place g))
+    (same-place f g e q))
   where
     before : place f < 8 * currentAt
     before = place-lt f (range-within f e)
 
 pub put-done : (s t : List ℕ) (f : Fact) (a : ℕ) → Canon s → Within f → a ≡ place f → t ≡ putBit s a → Holds t (insert f (contents s))
-put-done s t f a c w at q = subst (λ (r : List ℕ). Holds r (insert f (contents s))) (sym (q ∙ ap (putBit s) at)) (put-holds s f c (within-range f w))
+put-done s t f a c w at q =
+    subst (λ (r : List ℕ). Holds r (insert f (contents s))) (sym (q ∙ ap (putBit s) at)) (put-holds s f c (within-range f w))
 
 -- a number's byte stored: the number has the value, and all else is as it was
-pub store-holds : (s : List ℕ) (n : Number) (v : ℕ) → Canon s → isPeer (peerOf n) ≡ true → v < 256 → Holds (set s (slot n) v) (store n v (contents s))
+pub store-holds : (s : List ℕ) (n : Number) (v : ℕ) → Canon s → isPeer (peerOf n) ≡ true → v < 256
+    → Holds (set s (slot n) v) (store n v (contents s))
 unfolding contents store
 store-holds s n v c e h =
     record {
-      canon = frame.canon-same t s (λ i l. other i (λ q. omega (arith, w))) c (length-set s (slot n) v) (bytes-set s (slot n) v (c .bytes) h);
+      canon =
+          frame.canon-same t s (λ i l. other i (λ q. omega (arith, w))) c (length-set s (slot n) v) (bytes-set s (slot n) v (c .bytes) h);
       says =
           λ i. record {
             has = fun-ext (frame.has-same t s (λ i l. other i (λ q. omega (arith, w)))) i;
@@ -87,7 +92,10 @@ store-holds s n v c e h =
     here = rw e (getD-set-same s (slot n) v 0 (omega (arith, c .long, w)))
 
     apart : (m : Number) → sameNumber m n ≡ false → isPeer (peerOf m) ≡ true → slot m ≡ slot n → ⊥
-    apart m d p q = split (subst (λ (x : Number). sameNumber m x ≡ true) (slot-same m n (peer-within (peerOf m) p) (peer-within (peerOf n) e) q) (number-self m)) d
+    apart m d p q =
+        split
+        (subst (λ (x : Number). sameNumber m x ≡ true) (slot-same m n (peer-within (peerOf m) p) (peer-within (peerOf n) e) q)
+        (number-self m)) d
 
     value : (m : Number) → (sameNumber m n ≡ true) ⊎ (sameNumber m n ≡ false) → (isPeer (peerOf m) ≡ true) ⊎ (isPeer (peerOf m) ≡ false)
         → cond (isPeer (peerOf m)) (byteAt t (slot m)) 0 ≡ cond (sameNumber m n) v (cond (isPeer (peerOf m)) (byteAt s (slot m)) 0)
@@ -95,5 +103,7 @@ store-holds s n v c e h =
     value m (inr q) (inl p) = rw (q, p) (other (slot m) (apart m q p))
     value m (inr q) (inr p) = rw (q, p)
 
-pub store-done : (s : List ℕ) (n : Number) (v b : ℕ) → Canon s → Peer (peerOf n) → v < 256 → b ≡ slot n → Holds (set s b v) (store n v (contents s))
-store-done s n v b c w h at = subst (λ (x : ℕ). Holds (set s x v) (store n v (contents s))) (sym at) (store-holds s n v c (within-peer (peerOf n) w) h)
+pub store-done : (s : List ℕ) (n : Number) (v b : ℕ) → Canon s → Peer (peerOf n) → v < 256 → b ≡ slot n
+    → Holds (set s b v) (store n v (contents s))
+store-done s n v b c w h at =
+    subst (λ (x : ℕ). Holds (set s x v) (store n v (contents s))) (sym at) (store-holds s n v c (within-peer (peerOf n) w) h)

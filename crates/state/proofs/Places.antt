@@ -40,7 +40,8 @@ at-place a l =
     by-test At a (8 * receiptedAt) _ _ (λ h. (((omega arith, omega arith), (omega arith, omega arith)), omega arith)) (λ h2.
     by-test At a (8 * heldAt) _ _ (λ h. ((omega arith, omega arith), omega arith)) (λ h3.
     by-test At a (8 * databaseAt) _ _ (λ h. (((omega arith, omega arith), (omega arith, omega arith)), omega arith)) (λ h4.
-    by-test At a (8 * heardAt) _ _ (λ h. (((omega arith, omega arith), ((omega arith, omega arith), (omega arith, omega arith))), omega arith)) (λ h5.
+    by-test At a (8 * heardAt) _ _ (λ h.
+    (((omega arith, omega arith), ((omega arith, omega arith), (omega arith, omega arith))), omega arith)) (λ h5.
     (((omega arith, omega arith), omega arith), omega arith)))))))
   where
     At : Fact → Type 0
@@ -49,7 +50,8 @@ at-place a l =
 pub ap₃ : {A B C D : Type 0} (f : A → B → C → D) {a a′ : A} {b b′ : B} {c c′ : C} → a ≡ a′ → b ≡ b′ → c ≡ c′ → f a b c ≡ f a′ b′ c′
 ap₃ f p q r = λ i. f (p i) (q i) (r i)
 
-ap₄ : {A B C D E : Type 0} (f : A → B → C → D → E) {a a′ : A} {b b′ : B} {c c′ : C} {d d′ : D} → a ≡ a′ → b ≡ b′ → c ≡ c′ → d ≡ d′ → f a b c d ≡ f a′ b′ c′ d′
+ap₄ : {A B C D E : Type 0} (f : A → B → C → D → E) {a a′ : A} {b b′ : B} {c c′ : C} {d d′ : D} → a ≡ a′ → b ≡ b′
+    → c ≡ c′ → d ≡ d′ → f a b c d ≡ f a′ b′ c′ d′
 ap₄ f p q r s = λ i. f (p i) (q i) (r i) (s i)
 
 -- the kinds in the order of their bits: n begins the next kind
@@ -115,5 +117,6 @@ place-same f g p q e = sym (fact-at f p) ∙ ap factAt e ∙ fact-at g q
 pub same-place : (f g : Fact) → inRange f ≡ true → inRange g ≡ true → eqb (place f) (place g) ≡ sameFact g f
 same-place f g p q =
     iff _ _
-    (λ e. subst (λ (x : Fact). sameFact g x ≡ true) (place-same g f (range-within g q) (range-within f p) (sym (eqb-true (place f) (place g) e))) (fact-self g))
+    (λ e. subst (λ (x : Fact). sameFact g x ≡ true)
+    (place-same g f (range-within g q) (range-within f p) (sym (eqb-true (place f) (place g) e))) (fact-self g))
     (λ e. eq-eqb (place f) (place g) (ap place (sym (fact-same g f e))))

@@ -38,8 +38,11 @@ slot-within (DownOf j) h = (omega arith, omega arith)
 pub number-at : (n : Number) → Peer (peerOf n) → numberOf (slot n) ≡ n
 unfolding numberOf
 number-at (CurrentOf j) h = before (slot (CurrentOf j)) toBackAt _ _ _ (omega arith) (ap CurrentOf (omega arith))
-number-at (ToBackOf j) h = after (slot (ToBackOf j)) toBackAt _ _ _ (omega arith) (before (slot (ToBackOf j)) downAt _ _ _ (omega arith) (ap ToBackOf (omega arith)))
-number-at (DownOf j) h = after (slot (DownOf j)) toBackAt _ _ _ (omega arith) (after (slot (DownOf j)) downAt _ _ _ (omega arith) (ap DownOf (omega arith)))
+number-at (ToBackOf j) h =
+    after (slot (ToBackOf j)) toBackAt _ _ _ (omega arith)
+    (before (slot (ToBackOf j)) downAt _ _ _ (omega arith) (ap ToBackOf (omega arith)))
+number-at (DownOf j) h =
+    after (slot (DownOf j)) toBackAt _ _ _ (omega arith) (after (slot (DownOf j)) downAt _ _ _ (omega arith) (ap DownOf (omega arith)))
 
 pub slot-same : (m n : Number) → Peer (peerOf m) → Peer (peerOf n) → slot m ≡ slot n → m ≡ n
 slot-same m n p q e = sym (number-at m p) ∙ ap numberOf e ∙ number-at n q

@@ -39,11 +39,14 @@ module _ (T : Table) (s t : List ℕ) where
   unfolding effectOn
   did-post x h = h
 
-  pub did-hand : (j p x : ℕ) → p ≡ contents s .number (CurrentOf j) → Holds t (insert (Held j p x) (contents s)) → Holds t (effectOn T (contents s) (Hand j x))
+  pub did-hand : (j p x : ℕ) → p ≡ contents s .number (CurrentOf j) → Holds t (insert (Held j p x) (contents s))
+      → Holds t (effectOn T (contents s) (Hand j x))
   unfolding effectOn
   did-hand j p x e h = rw e at h
 
-  pub did-sign : (u : List ℕ) (j p x : ℕ) → p ≡ contents s .number (CurrentOf j) → Holds u (insert (Signed j p x) (contents s)) → Holds t (insert (Known j p x j) (contents u)) → Holds t (effectOn T (contents s) (Sign j x))
+  pub did-sign : (u : List ℕ) (j p x : ℕ) → p ≡ contents s .number (CurrentOf j)
+      → Holds u (insert (Signed j p x) (contents s)) → Holds t (insert (Known j p x j) (contents u))
+      → Holds t (effectOn T (contents s) (Sign j x))
   unfolding effectOn
   did-sign u j p x e h k = rw e at (again u t (Known j p x j) (insert (Signed j p x) (contents s)) h k)
 
@@ -51,7 +54,8 @@ module _ (T : Table) (s t : List ℕ) where
   unfolding effectOn
   did-take j k p x h = h
 
-  pub did-share : (j p x : ℕ) → p ≡ contents s .number (CurrentOf j) → Holds t (insert (Shared j p x) (contents s)) → Holds t (effectOn T (contents s) (Share j x))
+  pub did-share : (j p x : ℕ) → p ≡ contents s .number (CurrentOf j) → Holds t (insert (Shared j p x) (contents s))
+      → Holds t (effectOn T (contents s) (Share j x))
   unfolding effectOn
   did-share j p x e h = rw e at h
 
@@ -59,7 +63,8 @@ module _ (T : Table) (s t : List ℕ) where
   unfolding effectOn
   did-receipt p x h = h
 
-  pub did-close : (j : ℕ) → Holds t (store (CurrentOf j) (contents s .number (CurrentOf j) + 1) (contents s)) → Holds t (effectOn T (contents s) (Close j))
+  pub did-close : (j : ℕ) → Holds t (store (CurrentOf j) (contents s .number (CurrentOf j) + 1) (contents s))
+      → Holds t (effectOn T (contents s) (Close j))
   unfolding effectOn
   did-close j h = h
 
@@ -71,7 +76,8 @@ module _ (T : Table) (s t : List ℕ) where
   unfolding effectOn
   did-hear j e h = h
 
-  pub did-false-signature : (j p x : ℕ) → Holds t (insert (Signed j p x) (contents s)) → Holds t (effectOn T (contents s) (FalseSignature j p x))
+  pub did-false-signature : (j p x : ℕ) → Holds t (insert (Signed j p x) (contents s))
+      → Holds t (effectOn T (contents s) (FalseSignature j p x))
   unfolding effectOn
   did-false-signature j p x h = h
 
@@ -87,14 +93,21 @@ module _ (T : Table) (s t : List ℕ) where
   unfolding effectOn
   did-up j h = h
 
-  pub did-send-hash : (j p B : ℕ) → B ≡ boardBy T (stateOf (contents s)) j p → Holds t (enterOn (Hash j p B) (contents s)) → Holds t (effectOn T (contents s) (SendHash j p))
+  pub did-send-hash : (j p B : ℕ) → B ≡ boardBy T (stateOf (contents s)) j p
+      → Holds t (enterOn (Hash j p B) (contents s)) → Holds t (effectOn T (contents s) (SendHash j p))
   unfolding effectOn
   did-send-hash j p B e h = rw e at h
 
-  pub did-back : (u : List ℕ) (j q B : ℕ) → q ≡ contents s .number (ToBackOf j) → B ≡ boardBy T (stateOf (contents s)) j q → Holds u (enterOn (Backing j q B) (contents s))
+  pub did-back : (u : List ℕ) (j q B : ℕ) → q ≡ contents s .number (ToBackOf j)
+      → B ≡ boardBy T (stateOf (contents s)) j q → Holds u (enterOn (Backing j q B) (contents s))
       → Holds t (store (ToBackOf j) (contents u .number (ToBackOf j) + 1) (contents u)) → Holds t (effectOn T (contents s) (Back j))
   unfolding effectOn
-  did-back u j q B i e h k = record { canon = k .canon; says = k .says ∙ ap (λ (c : Contents). store (ToBackOf j) (c .number (ToBackOf j) + 1) c) (h .says) ∙ counted ∙ rw (e, i) }
+  did-back u j q B i e h k =
+      record {
+        canon = k .canon;
+        says = k .says ∙ ap (λ (c : Contents). store (ToBackOf j) (c .number (ToBackOf j) + 1) c) (h .says)
+            ∙ counted ∙ rw (e, i);
+      }
     where
       after : Contents
       after = enterOn (Backing j q B) (contents s)
@@ -102,7 +115,8 @@ module _ (T : Table) (s t : List ℕ) where
       counted : store (ToBackOf j) (after .number (ToBackOf j) + 1) after ≡ store (ToBackOf j) (contents s .number (ToBackOf j) + 1) after
       counted = ap (λ (v : ℕ). store (ToBackOf j) (v + 1) after) (same-number (Backing j q B) (contents s) (ToBackOf j))
 
-  pub did-publish : (n : ℕ) (x : Entry) → x ≡ boardNamed (contents s .bag) n → Holds t (enterOn x (contents s)) → Holds t (effectOn T (contents s) (Publish n))
+  pub did-publish : (n : ℕ) (x : Entry) → x ≡ boardNamed (contents s .bag) n → Holds t (enterOn x (contents s))
+      → Holds t (effectOn T (contents s) (Publish n))
   unfolding effectOn
   did-publish n x e h = rw e at h
 
@@ -110,6 +124,7 @@ module _ (T : Table) (s t : List ℕ) where
   unfolding effectOn
   did-false-hash j p B h = h
 
-  pub did-false-backing : (j p B : ℕ) → Holds t (enterOn (Backing j p B) (contents s)) → Holds t (effectOn T (contents s) (FalseBacking j p B))
+  pub did-false-backing : (j p B : ℕ) → Holds t (enterOn (Backing j p B) (contents s))
+      → Holds t (effectOn T (contents s) (FalseBacking j p B))
   unfolding effectOn
   did-false-backing j p B h = h

@@ -27,7 +27,11 @@ use Rattle.view.specs.Ready.{Room, Ready}
 -- names of the table are names of the layout
 
 in-peers : (h : Head) (j : ℕ) → Room h → eqb j 0 || ltb (h .n) j ≡ false → Peer j
-in-peers h j room e = (omega (arith, eqb-false j 0 (or-false-l (eqb j 0) (ltb (h .n) j) e)), omega (arith, ltb-false (h .n) j (or-false-r (eqb j 0) _ e), room .peers))
+in-peers h j room e = (
+  omega (arith, eqb-false j 0 (or-false-l (eqb j 0) (ltb (h .n) j) e)),
+  omega
+      (arith, ltb-false (h .n) j (or-false-r (eqb j 0) _ e), room .peers),
+)
 
 in-periods : (h : Head) (p : ℕ) → Room h → not (ltb p (h .periods)) ≡ false → p < periods
 in-periods h p room e = omega (arith, ltb-true p (h .periods) (not-false _ e), room .periods)
@@ -60,7 +64,8 @@ module _ (h : Head) (clash : ℕ → ℕ → Bool) (s : List ℕ) (R : Ready h s
     unfolding rule
     may-sign j p x e z i = let c = clear (Sign j x) e z in let r = room in search named
 
-    pub may-know-own : (j p x : ℕ) → a ≡ answerOn h clash s (Sign j x) → a ≡ 0 → p ≡ contents s .number (CurrentOf j) → Within (Known j p x j)
+    pub may-know-own : (j p x : ℕ) → a ≡ answerOn h clash s (Sign j x) → a ≡ 0 → p ≡ contents s .number (CurrentOf j)
+        → Within (Known j p x j)
     unfolding rule
     may-know-own j p x e z i = let c = clear (Sign j x) e z in let r = room in search named
 
@@ -109,16 +114,19 @@ module _ (h : Head) (clash : ℕ → ℕ → Bool) (s : List ℕ) (R : Ready h s
 
     -- there is room for the entry of the step
 
-    pub room-for-hash : (j p B : ℕ) → a ≡ answerOn h clash s (SendHash j p) → a ≡ 0 → B ≡ boardBy (tableOf h clash) (stateOf (contents s)) j p → isFull (Hash j p B) (contents s .bag) ≡ false
+    pub room-for-hash : (j p B : ℕ) → a ≡ answerOn h clash s (SendHash j p) → a ≡ 0
+        → B ≡ boardBy (tableOf h clash) (stateOf (contents s)) j p → isFull (Hash j p B) (contents s .bag) ≡ false
     unfolding rule
     room-for-hash j p B e z i = let c = clear (SendHash j p) e z in rw i (search)
 
-    pub room-for-backing : (j q B : ℕ) → a ≡ answerOn h clash s (Back j) → a ≡ 0 → q ≡ contents s .number (ToBackOf j) → B ≡ boardBy (tableOf h clash) (stateOf (contents s)) j (contents s .number (ToBackOf j))
+    pub room-for-backing : (j q B : ℕ) → a ≡ answerOn h clash s (Back j) → a ≡ 0 → q ≡ contents s .number (ToBackOf j)
+        → B ≡ boardBy (tableOf h clash) (stateOf (contents s)) j (contents s .number (ToBackOf j))
         → isFull (Backing j q B) (contents s .bag) ≡ false
     unfolding rule
     room-for-backing j q B e z k i = let c = clear (Back j) e z in rw (k, i) (search)
 
-    pub room-for-board : (n : ℕ) (x : Entry) → a ≡ answerOn h clash s (Publish n) → a ≡ 0 → x ≡ boardNamed (contents s .bag) n → isFull x (contents s .bag) ≡ false
+    pub room-for-board : (n : ℕ) (x : Entry) → a ≡ answerOn h clash s (Publish n) → a ≡ 0
+        → x ≡ boardNamed (contents s .bag) n → isFull x (contents s .bag) ≡ false
     unfolding rule
     room-for-board n x e z i = let c = clear (Publish n) e z in rw i (search)
 
@@ -126,7 +134,8 @@ module _ (h : Head) (clash : ℕ → ℕ → Bool) (s : List ℕ) (R : Ready h s
     unfolding rule
     room-for-false-hash j p B e z = let c = clear (FalseHash j p B) e z in search
 
-    pub room-for-false-backing : (j p B : ℕ) → a ≡ answerOn h clash s (FalseBacking j p B) → a ≡ 0 → isFull (Backing j p B) (contents s .bag) ≡ false
+    pub room-for-false-backing : (j p B : ℕ) → a ≡ answerOn h clash s (FalseBacking j p B) → a ≡ 0
+        → isFull (Backing j p B) (contents s .bag) ≡ false
     unfolding rule
     room-for-false-backing j p B e z = let c = clear (FalseBacking j p B) e z in search
 
@@ -135,7 +144,9 @@ module _ (h : Head) (clash : ℕ → ℕ → Bool) (s : List ℕ) (R : Ready h s
     may-back j e z = let c = clear (Back j) e z in let r = room in search named
 
   -- the board of the period to back, whichever way that period is written
-  pub of-next : (j q B : ℕ) → q ≡ contents s .number (ToBackOf j) → B ≡ boardBy (tableOf h clash) (stateOf (contents s)) j q → B ≡ boardBy (tableOf h clash) (stateOf (contents s)) j (contents s .number (ToBackOf j))
+  pub of-next : (j q B : ℕ) → q ≡ contents s .number (ToBackOf j)
+      → B ≡ boardBy (tableOf h clash) (stateOf (contents s)) j q
+      → B ≡ boardBy (tableOf h clash) (stateOf (contents s)) j (contents s .number (ToBackOf j))
   of-next j q B i e = e ∙ ap (λ (p : ℕ). boardBy (tableOf h clash) (stateOf (contents s)) j p) i
 
 -- after an entry the counters are as they were

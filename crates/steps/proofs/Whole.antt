@@ -16,5 +16,6 @@ module _ (h : Head) (clash : ℕ → ℕ → Bool) (s : List ℕ) (st : Step) wh
   pub refused : (r : ℕ) → r ≡ answerOn h clash s st → (r ≡ 0 → ⊥) → Stepped h clash s s st r
   refused r e n = record { answers = e; leaves = rw (ne-eqb r 0 n) }
 
-  pub taken : (t : List ℕ) {a : ℕ} → a ≡ answerOn h clash s st → a ≡ 0 → Holds t (effectOn (tableOf h clash) (contents s) st) → Stepped h clash s t st 0
+  pub taken : (t : List ℕ) {a : ℕ} → a ≡ answerOn h clash s st → a ≡ 0
+      → Holds t (effectOn (tableOf h clash) (contents s) st) → Stepped h clash s t st 0
   taken t e z held = record { answers = sym z ∙ e; leaves = holds-bytes t _ held }

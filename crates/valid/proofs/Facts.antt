@@ -27,7 +27,8 @@ module _ (h : Head) (s : List ℕ) where
       let within = range-within f (and-l (inRange f) _ e) in
       let at = fact-at f within in
       subst (λ (g : Fact). factOk h (contents s .bag) g ≡ true) at
-      (there (bitAt s (place f)) _ (every-at (λ a. not (bitAt s a) || factOk h (contents s .bag) (factAt a)) (8 * currentAt) ok (place f) (place-lt f within)) (and-r (inRange f) _ e))
+      (there (bitAt s (place f)) _ (every-at (λ a. not (bitAt s a) || factOk h (contents s .bag) (factAt a)) (8 * currentAt) ok (place f)
+      (place-lt f within)) (and-r (inRange f) _ e))
 
   pub ok-of-facts : ((f : Fact) → contents s .has f ≡ true → factOk h (contents s .bag) f ≡ true) → factsOk h s ≡ true
   unfolding factsOk contents

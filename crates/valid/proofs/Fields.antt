@@ -48,10 +48,20 @@ module _ (h : Head) (s : List ℕ) where
   number-at : (i o : ℕ) (n : Number) → i < peers → peerOf n ≡ i + 1 → slot n ≡ o + (i + 1 - 1) → contents s .number n ≡ byteAt s (o + i)
   unfolding contents
   number-at i o n l p q =
-      rw (p, le-leb 1 (i + 1) (omega arith), le-leb (i + 1) peers (omega arith), q) (ap (λ (k : ℕ). byteAt s (o + k)) {x = i + 1 - 1} {y = i} (omega arith))
+      rw (p, le-leb 1 (i + 1) (omega arith), le-leb (i + 1) peers (omega arith), q)
+      (ap (λ (k : ℕ). byteAt s (o + k)) {x = i + 1 - 1} {y = i} (omega arith))
 
-  pub by-peer : (i : ℕ) (r : Bool) → r ≡ numbersOk h (i + 1) (byteAt s (currentAt + i)) (byteAt s (toBackAt + i)) (byteAt s (downAt + i)) → i < peers → r ≡ peerAtOk i
+  pub by-peer : (i : ℕ) (r : Bool)
+      → r ≡ numbersOk h (i + 1) (byteAt s (currentAt + i)) (byteAt s (toBackAt + i)) (byteAt s (downAt + i)) → i < peers
+      → r ≡ peerAtOk i
   unfolding peerAtOk peerOk
-  by-peer i r e l = e ∙ rw (number-at i currentAt (CurrentOf (i + 1)) l refl refl, number-at i toBackAt (ToBackOf (i + 1)) l refl refl, number-at i downAt (DownOf (i + 1)) l refl refl)
+  by-peer i r e l =
+      e
+      ∙ rw (
+        number-at i currentAt (CurrentOf (i + 1)) l refl refl,
+        number-at i toBackAt (ToBackOf (i + 1)) l refl refl,
+        number-at i downAt
+            (DownOf (i + 1)) l refl refl,
+      )
 
 pub ruleset by-each-peer = (by-loop, by-peers, by-peer)

@@ -64,10 +64,13 @@ module _ (s : List ℕ) where
       record {
         long = length-replicate {A = ℕ} entryBytes 0;
         bytes = λ b. omega (arith, zeros-at entryBytes b);
-        each = λ k. ap (λ (x : ℕ). bit x (k % 8)) (zeros-at entryBytes (k / 8)) ∙ bit-none (k % 8) ∙ ap (λ (b : Bool). b && hashByte k) (sym (le-ltb k 0 (omega arith)));
+        each =
+            λ k. ap (λ (x : ℕ). bit x (k % 8)) (zeros-at entryBytes (k / 8)) ∙ bit-none (k % 8)
+            ∙ ap (λ (b : Bool). b && hashByte k) (sym (le-ltb k 0 (omega arith)));
       }
 
-  pub hashes-more : (e : ℕ) (m m′ : List ℕ) → e < 256 → HashesTo e m → m′ ≡ cond (eqb (byteAt s (entryStart e)) hashKind) (putBit m e) m → HashesTo (e + 1) m′
+  pub hashes-more : (e : ℕ) (m m′ : List ℕ) → e < 256 → HashesTo e m
+      → m′ ≡ cond (eqb (byteAt s (entryStart e)) hashKind) (putBit m e) m → HashesTo (e + 1) m′
   unfolding hashByte
   hashes-more e m m′ l H t = rw t (go (hashByte e) refl)
     where
@@ -82,7 +85,9 @@ module _ (s : List ℕ) where
 
           here : Dec (e ≡ k) → ((b && eqb e k) || (ltb k e && hashByte k)) ≡ (ltb k (e + 1) && hashByte k)
           here (yes z) = rw (← z, eq-eqb e e refl, q, lt-ltb e (e + 1) (omega arith)) (or-and (hashByte e) (ltb e e))
-          here (no n) = rw (ne-eqb e k n, and-false b) (ap (λ (x : Bool). x && hashByte k) (same-test k e k (e + 1) (λ r. omega arith) (λ r. omega arith)))
+          here (no n) =
+              rw (ne-eqb e k n, and-false b)
+              (ap (λ (x : Bool). x && hashByte k) (same-test k e k (e + 1) (λ r. omega arith) (λ r. omega arith)))
 
       go : (b : Bool) → b ≡ hashByte e → HashesTo (e + 1) (cond b (putBit m e) m)
       go true z =

@@ -27,11 +27,13 @@ beside x m = bitXor (bitOr x m) m
 
 module _ (x m : ℕ) (a : x < 256) (b : m < 256) where
   none-beside : eqb (beside x m) 0 ≡ true → bitOr x m ≡ m
-  none-beside e = let z = eqb-true (beside x m) 0 e in omega (arith, xor-add-and (bitOr x m) m, and-le-l (bitOr x m) m, and-le-r (bitOr x m) m)
+  none-beside e =
+      let z = eqb-true (beside x m) 0 e in omega (arith, xor-add-and (bitOr x m) m, and-le-l (bitOr x m) m, and-le-r (bitOr x m) m)
 
   pub only-byte : eqb (beside x m) 0 ≡ every 8 (λ k. not (bit x k) || bit m k)
   only-byte = iff _ _
-      (λ e. every-of 8 (λ k. not (bit x k) || bit m k) (λ k l. imp-i (bit x k) (bit m k) (λ t. ap (λ (y : ℕ). bit y k) (sym (none-beside e)) ∙ bit-or x m k ∙ or-l (bit x k) (bit m k) t)))
+      (λ e. every-of 8 (λ k. not (bit x k) || bit m k)
+      (λ k l. imp-i (bit x k) (bit m k) (λ t. ap (λ (y : ℕ). bit y k) (sym (none-beside e)) ∙ bit-or x m k ∙ or-l (bit x k) (bit m k) t)))
       (λ e. eq-eqb (beside x m) 0 (ap (λ (y : ℕ). bitXor y m) (same e) ∙ xor-self m))
     where
       covered : (p q : Bool) → not p || q ≡ true → (p || q) ≡ q
@@ -41,13 +43,16 @@ module _ (x m : ℕ) (a : x < 256) (b : m < 256) where
       same : every 8 (λ k. not (bit x k) || bit m k) ≡ true → bitOr x m ≡ m
       same e =
           sym (pack-bit 8 (bitOr x m) (or-lt 8 x m a b))
-          ∙ pack-ext 8 (bit (bitOr x m)) (bit m) (λ k l. bit-or x m k ∙ covered (bit x k) (bit m k) (every-at (λ k. not (bit x k) || bit m k) 8 e k l))
+          ∙ pack-ext 8 (bit (bitOr x m)) (bit m)
+          (λ k l. bit-or x m k ∙ covered (bit x k) (bit m k) (every-at (λ k. not (bit x k) || bit m k) 8 e k l))
           ∙ pack-bit 8 m b
 
 no-bits : (x : ℕ) → x < 256 → eqb x 0 ≡ every 8 (λ k. not (bit x k) || false)
 no-bits x h = iff _ _
-    (λ e. every-of 8 (λ k. not (bit x k) || false) (λ k l. ap (λ (y : ℕ). not (bit y k) || false) (eqb-true x 0 e) ∙ ap (λ (p : Bool). not p || false) (bit-none k)))
-    (λ e. eq-eqb x 0 (sym (pack-bit 8 x h) ∙ pack-ext 8 (bit x) (bit 0) (λ k l. is-none (bit x k) (every-at (λ k. not (bit x k) || false) 8 e k l) ∙ sym (bit-none k)) ∙ pack-bit 8 0 (omega arith)))
+    (λ e. every-of 8 (λ k. not (bit x k) || false)
+    (λ k l. ap (λ (y : ℕ). not (bit y k) || false) (eqb-true x 0 e) ∙ ap (λ (p : Bool). not p || false) (bit-none k)))
+    (λ e. eq-eqb x 0 (sym (pack-bit 8 x h) ∙ pack-ext 8 (bit x) (bit 0)
+    (λ k l. is-none (bit x k) (every-at (λ k. not (bit x k) || false) 8 e k l) ∙ sym (bit-none k)) ∙ pack-bit 8 0 (omega arith)))
   where
     is-none : (p : Bool) → not p || false ≡ true → p ≡ false
     is-none true e = sym e
@@ -58,7 +63,8 @@ by-bytes : (n : ℕ) (f : ℕ → Bool) → every (8 * n) f ≡ every n (λ i. e
 by-bytes n f =
     ap (λ (x : ℕ). every x f) (mul-comm 8 n)
     ∙ every-rows n 8 f
-    ∙ every-ext n (λ i. every 8 (λ k. f (i * 8 + k))) (λ i. every 8 (λ k. f (8 * i + k))) (λ i l. every-ext 8 (λ k. f (i * 8 + k)) (λ k. f (8 * i + k)) (λ k h. ap f (omega arith)))
+    ∙ every-ext n (λ i. every 8 (λ k. f (i * 8 + k))) (λ i. every 8 (λ k. f (8 * i + k)))
+    (λ i l. every-ext 8 (λ k. f (i * 8 + k)) (λ k. f (8 * i + k)) (λ k h. ap f (omega arith)))
 
 -- bit k of byte i
 pub bit-in : (s : List ℕ) (i k : ℕ) → k < 8 → bitAt s (8 * i + k) ≡ bit (byteAt s i) k
@@ -77,14 +83,17 @@ module _ (s : List ℕ) (o : ℕ) where
   unfolding onlyIn byteIn
   only-bytes n f =
       by-bytes n (λ k. not (bitAt s (8 * o + k)) || f k)
-      ∙ every-ext n _ _ (λ i l. every-ext 8 (λ k. not (bitAt s (8 * o + (8 * i + k))) || f (8 * i + k)) (λ k. not (bit (byteAt s (o + i)) k) || f (8 * i + k)) (λ k h. ap (λ (p : Bool). not p || f (8 * i + k)) (bit-from i k h)))
+      ∙ every-ext n _ _ (λ i l. every-ext 8 (λ k. not (bitAt s (8 * o + (8 * i + k))) || f (8 * i + k))
+      (λ k. not (bit (byteAt s (o + i)) k) || f (8 * i + k)) (λ k h. ap (λ (p : Bool). not p || f (8 * i + k)) (bit-from i k h)))
 
   -- only bits of the mask m
-  byte-masked : (m : List ℕ) (i : ℕ) → byteAt s (o + i) < 256 → byteAt m i < 256 → eqb (beside (byteAt s (o + i)) (byteAt m i)) 0 ≡ byteIn (bitAt m) i
+  byte-masked : (m : List ℕ) (i : ℕ) → byteAt s (o + i) < 256 → byteAt m i < 256
+      → eqb (beside (byteAt s (o + i)) (byteAt m i)) 0 ≡ byteIn (bitAt m) i
   unfolding byteIn
   byte-masked m i b c =
       only-byte (byteAt s (o + i)) (byteAt m i) b c
-      ∙ every-ext 8 _ (λ k. not (bit (byteAt s (o + i)) k) || bitAt m (8 * i + k)) (λ k h. ap (λ (q : Bool). not (bit (byteAt s (o + i)) k) || q) (sym (bit-in m i k h)))
+      ∙ every-ext 8 _ (λ k. not (bit (byteAt s (o + i)) k) || bitAt m (8 * i + k))
+      (λ k h. ap (λ (q : Bool). not (bit (byteAt s (o + i)) k) || q) (sym (bit-in m i k h)))
 
   -- no bits
   byte-none : (i : ℕ) → byteAt s (o + i) < 256 → zeroByte s o i ≡ byteIn none i
@@ -104,7 +113,8 @@ module _ (s : List ℕ) (o : ℕ) where
 
   pub only-zeros : (b r : Bool) (f : ℕ → Bool) (n : ℕ) → Bytes s → b ≡ false → r ≡ zeros n s o → r ≡ onlyIn n s o (gated b f)
   unfolding gated none
-  only-zeros b r f n h e q = rw e (q ∙ zeros-all s o n ∙ every-ext n (zeroByte s o) (byteIn none) (λ i l. byte-none i (h (o + i))) ∙ sym (only-bytes n none))
+  only-zeros b r f n h e q =
+      rw e (q ∙ zeros-all s o n ∙ every-ext n (zeroByte s o) (byteIn none) (λ i l. byte-none i (h (o + i))) ∙ sym (only-bytes n none))
 
   -- rows of w bytes, each by itself
   unfoldable pub rowIn : ℕ → ℕ → (ℕ → Bool) → ℕ → Bool
@@ -119,7 +129,8 @@ module _ (s : List ℕ) (o : ℕ) where
   only-rows m used w f =
       ap (λ (x : ℕ). every x G) {x = 8 * (m * w)} {y = m * (8 * w)} (mul-left-comm 8 m w)
       ∙ every-rows m (8 * w) G
-      ∙ every-ext m _ _ (λ r l. every-ext (8 * w) (λ k. G (r * (8 * w) + k)) (λ k. not (bitAt s (8 * (o + w * r) + k)) || (ltb r used && f k)) (λ k h.
+      ∙ every-ext m _ _ (λ r l. every-ext (8 * w) (λ k. G (r * (8 * w) + k))
+      (λ k. not (bitAt s (8 * (o + w * r) + k)) || (ltb r used && f k)) (λ k h.
       ap₃ (λ (a b c : ℕ). not (bitAt s a) || (ltb b used && f c)) (at r k) (digits-div r h) (digits-mod r h)))
     where
       G : ℕ → Bool

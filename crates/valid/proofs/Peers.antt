@@ -34,7 +34,8 @@ module _ (h : Head) where
     where
       go : (leb j (h .n) ≡ true) ⊎ (leb j (h .n) ≡ false) → Numbers h c j
       go (inl e) =
-          let has : (leb (c .number (CurrentOf j)) (h .periods) && (leb (c .number (ToBackOf j)) (c .number (CurrentOf j)) && leb (c .number (DownOf j)) 1)) ≡ true = rw e at ok in
+          let has : (leb (c .number (CurrentOf j)) (h .periods) &&
+          (leb (c .number (ToBackOf j)) (c .number (CurrentOf j)) && leb (c .number (DownOf j)) 1)) ≡ true = rw e at ok in
           let small = leb-true j (h .n) e in
           let p = leb-true _ _ (and-l (leb (c .number (CurrentOf j)) (h .periods)) _ has) in
           let rest = and-r (leb (c .number (CurrentOf j)) (h .periods)) _ has in
@@ -43,22 +44,34 @@ module _ (h : Head) where
           record { current-at-most = p; to-back-at-most = n; flag = omega arith; has-current = λ q. (l, small); is-down = λ q. (l, small) }
       go (inr e) =
           let none = eqb-true (c .number (CurrentOf j) + c .number (ToBackOf j) + c .number (DownOf j)) 0 (rw e at ok) in
-          record { current-at-most = omega arith; to-back-at-most = omega arith; flag = omega arith; has-current = λ q. absurd (omega arith); is-down = λ q. absurd (omega arith) }
+          record {
+            current-at-most = omega arith;
+            to-back-at-most = omega arith;
+            flag = omega arith;
+            has-current = λ q. absurd
+                (omega arith);
+            is-down = λ q. absurd (omega arith);
+          }
 
   ok-of : (c : Contents) (j : ℕ) → Numbers h c j → peerOk h c j ≡ true
   unfolding peerOk numbersOk
   ok-of c j N = go (either (leb j (h .n)))
     where
       go : (leb j (h .n) ≡ true) ⊎ (leb j (h .n) ≡ false)
-          → cond (leb j (h .n)) (leb (c .number (CurrentOf j)) (h .periods) && (leb (c .number (ToBackOf j)) (c .number (CurrentOf j)) && leb (c .number (DownOf j)) 1))
+          → cond (leb j (h .n)) (leb (c .number (CurrentOf j)) (h .periods) &&
+          (leb (c .number (ToBackOf j)) (c .number (CurrentOf j)) && leb (c .number (DownOf j)) 1))
           (eqb (c .number (CurrentOf j) + c .number (ToBackOf j) + c .number (DownOf j)) 0) ≡ true
-      go (inl e) = rw e (and-i _ _ (le-leb _ _ (N .current-at-most)) (and-i _ _ (le-leb _ _ (N .to-back-at-most)) (le-leb (c .number (DownOf j)) 1 (omega (arith, N .flag)))))
+      go (inl e) =
+          rw e
+          (and-i _ _ (le-leb _ _ (N .current-at-most))
+          (and-i _ _ (le-leb _ _ (N .to-back-at-most)) (le-leb (c .number (DownOf j)) 1 (omega (arith, N .flag)))))
       go (inr e) = rw e (eq-eqb _ 0 (none (decLt 0 (c .number (CurrentOf j))) (decLt 0 (c .number (DownOf j)))))
         where
           above : h .n < j
           above = leb-false j (h .n) e
 
-          none : Dec (0 < c .number (CurrentOf j)) → Dec (0 < c .number (DownOf j)) → c .number (CurrentOf j) + c .number (ToBackOf j) + c .number (DownOf j) ≡ 0
+          none : Dec (0 < c .number (CurrentOf j)) → Dec (0 < c .number (DownOf j))
+              → c .number (CurrentOf j) + c .number (ToBackOf j) + c .number (DownOf j) ≡ 0
           none (yes o) d = absurd (omega (arith, above, N .has-current o .1))
           none (no o) (yes d) = absurd (omega (arith, above, N .is-down d .1))
           none (no o) (no d) = omega (arith, N .to-back-at-most)
@@ -72,12 +85,20 @@ module _ (h : Head) where
         go (inl e) =
             let within = peer-within j e in
             numbers-of (contents s) j (within .0)
-            (subst (λ (k : ℕ). peerOk h (contents s) k ≡ true) {x = j - 1 + 1} {y = j} (omega arith) (every-at (λ i. peerOk h (contents s) (i + 1)) peers ok (j - 1) (omega arith)))
+            (subst (λ (k : ℕ). peerOk h (contents s) k ≡ true) {x = j - 1 + 1} {y = j} (omega arith)
+            (every-at (λ i. peerOk h (contents s) (i + 1)) peers ok (j - 1) (omega arith)))
         go (inr e) =
             let p = number-none s (CurrentOf j) e in
             let c = number-none s (ToBackOf j) e in
             let d = number-none s (DownOf j) e in
-            record { current-at-most = omega arith; to-back-at-most = omega arith; flag = omega arith; has-current = λ q. absurd (omega arith); is-down = λ q. absurd (omega arith) }
+            record {
+              current-at-most = omega arith;
+              to-back-at-most = omega arith;
+              flag = omega arith;
+              has-current = λ q. absurd
+                  (omega arith);
+              is-down = λ q. absurd (omega arith);
+            }
 
     pub ok-of-peers : ((j : ℕ) → Numbers h (contents s) j) → peersOk h s ≡ true
     unfolding peersOk

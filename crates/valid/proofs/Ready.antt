@@ -30,7 +30,9 @@ use Rattle.bag_valid.proofs.Bag.{canon-of-ok, bag-of-ok, ok-of-bag}
 module _ (h : Head) (s : List ℕ) where
   -- from the test
 
-  sets-of-ok : (clash : ℕ → ℕ → Bool) → factsOk h s ≡ true → SetsIn (tableOf h clash) (stateOf (contents s) .posted) (stateOf (contents s) .signed) (stateOf (contents s) .shared) (stateOf (contents s) .receipted) (stateOf (contents s) .held) (stateOf (contents s) .db)
+  sets-of-ok : (clash : ℕ → ℕ → Bool) → factsOk h s ≡ true
+      → SetsIn (tableOf h clash) (stateOf (contents s) .posted) (stateOf (contents s) .signed) (stateOf (contents s) .shared)
+      (stateOf (contents s) .receipted) (stateOf (contents s) .held) (stateOf (contents s) .db)
   sets-of-ok clash ok = record {
     posts = λ x e. ltb-true _ _ (fact-of-ok h s ok (Posted x) e);
     signs = λ k p x e. let f = fact-of-ok h s ok (Signed k p x) e in search (and-l, and-r, ltb-true, between-true);
@@ -42,8 +44,11 @@ module _ (h : Head) (s : List ℕ) where
 
   heard-of-ok : (clash : ℕ → ℕ → Bool) → factsOk h s ≡ true → HeardIn (tableOf h clash) (stateOf (contents s) .heard) (contents s .bag)
   heard-of-ok clash ok j k p B t =
-      let e = told-at (λ a. contents s .has (Heard j a)) 0 (contents s .bag) k p B t in
-      (between-true 1 j (h .n) (and-l (between 1 j (h .n)) _ (fact-of-ok h s ok (Heard j (0 + e .0)) (e .2))), told-in (λ a. contents s .has (Heard j a)) 0 (contents s .bag) k p B t)
+      let e = told-at (λ a. contents s .has (Heard j a)) 0 (contents s .bag) k p B t in (
+        between-true 1 j (h .n) (and-l (between 1 j (h .n)) _ (fact-of-ok h s ok (Heard j (0 + e .0)) (e .2))),
+        told-in
+            (λ a. contents s .has (Heard j a)) 0 (contents s .bag) k p B t,
+      )
 
   pub ready-of-ok : Room h → Bytes s → stateOk h s ≡ true → Ready h s
   unfolding stateOk
@@ -84,7 +89,8 @@ module _ (h : Head) (s : List ℕ) where
     is-cell : (p x : ℕ) → (p < h .periods) × (x < h .items) → ltb p (h .periods) && ltb x (h .items) ≡ true
     is-cell p x q = and-i _ _ (lt-ltb p (h .periods) (q .0)) (lt-ltb x (h .items) (q .1))
 
-    is-spot : (k p x : ℕ) → ((1 ≤ k) × (k ≤ h .n)) × ((p < h .periods) × (x < h .items)) → between 1 k (h .n) && (ltb p (h .periods) && ltb x (h .items)) ≡ true
+    is-spot : (k p x : ℕ) → ((1 ≤ k) × (k ≤ h .n)) × ((p < h .periods) × (x < h .items))
+        → between 1 k (h .n) && (ltb p (h .periods) && ltb x (h .items)) ≡ true
     is-spot k p x q = and-i _ _ (is-peer k (q .0)) (is-cell p x (q .1))
 
     of-table : (f : Fact) → contents s .has f ≡ true → factOk h (contents s .bag) f ≡ true
@@ -107,4 +113,6 @@ module _ (h : Head) (s : List ℕ) where
 
     pub ok-of-ready : stateOk h s ≡ true
     unfolding stateOk
-    ok-of-ready = and-i _ _ (eq-eqb (length s) size (R .canon .long)) (and-i _ _ (ok-of-bag h noClash s (R .canon) (W .bag)) (and-i _ _ (ok-of-peers h s numbers) (ok-of-facts h s of-table)))
+    ok-of-ready =
+        and-i _ _ (eq-eqb (length s) size (R .canon .long))
+        (and-i _ _ (ok-of-bag h noClash s (R .canon) (W .bag)) (and-i _ _ (ok-of-peers h s numbers) (ok-of-facts h s of-table)))

@@ -28,7 +28,9 @@ use Rattle.valid.proofs.Masks.{only-of-mask, rows-of-mask, tables-of-ma
 
 -- peers count from 1, and their bits from 0
 peer-bit : (n a : ℕ) → between 1 (a + 1) n ≡ ltb a n
-peer-bit n a = iff _ _ (λ e. lt-ltb a n (omega (arith, leb-true (a + 1) n (and-r (leb 1 (a + 1)) _ e)))) (λ e. let l = ltb-true a n e in rw (le-leb 1 (a + 1) (omega arith)) (le-leb (a + 1) n (omega arith)))
+peer-bit n a =
+    iff _ _ (λ e. lt-ltb a n (omega (arith, leb-true (a + 1) n (and-r (leb 1 (a + 1)) _ e))))
+    (λ e. let l = ltb-true a n e in rw (le-leb 1 (a + 1) (omega arith)) (le-leb (a + 1) n (omega arith)))
 
 last-first : (a b c : Bool) → a && (b && c) ≡ (b && (c && a))
 last-first true true true = refl
@@ -54,14 +56,16 @@ module _ (h : Head) (s : List ℕ) where
   bitOk a = not (bitAt s a) || factOk h bag (factAt a)
 
   -- the facts of a region, by the number of their bit in it, are of the table where f says so
-  region : (n o : ℕ) (by : ℕ → Fact) (f : ℕ → Bool) → ((k : ℕ) → k < 8 * n → Within (by k) × (place (by k) ≡ 8 * o + k)) → ((k : ℕ) → k < 8 * n → factOk h bag (by k) ≡ f k)
+  region : (n o : ℕ) (by : ℕ → Fact) (f : ℕ → Bool) → ((k : ℕ) → k < 8 * n → Within (by k) × (place (by k) ≡ 8 * o + k))
+      → ((k : ℕ) → k < 8 * n → factOk h bag (by k) ≡ f k)
       → every (8 * n) (λ k. bitOk (8 * o + k)) ≡ onlyIn n s o f
   unfolding onlyIn bitOk
   region n o by f at ok = every-ext (8 * n) _ _ (λ k l. ap (λ (q : Bool). not (bitAt s (8 * o + k)) || q)
       (ap (λ (a : ℕ). factOk h bag (factAt a)) (sym (at k l .1)) ∙ ap (factOk h bag) (fact-at (by k) (at k l .0)) ∙ ok k l))
 
   -- a peer, a period and an item of the table
-  spot-bit : (a p i a′ p′ i′ : ℕ) → a ≡ a′ → p ≡ p′ → i ≡ i′ → isSpot h (a + 1) p i ≡ (ltb p′ (h .periods) && (ltb i′ (h .items) && ltb a′ (h .n)))
+  spot-bit : (a p i a′ p′ i′ : ℕ) → a ≡ a′ → p ≡ p′ → i ≡ i′
+      → isSpot h (a + 1) p i ≡ (ltb p′ (h .periods) && (ltb i′ (h .items) && ltb a′ (h .n)))
   spot-bit a p i a′ p′ i′ x y z = rw (peer-bit (h .n) a, x, y, z) (last-first (ltb a′ (h .n)) (ltb p′ (h .periods)) (ltb i′ (h .items)))
 
   posted : every (8 * itemBytes) (λ k. bitOk (8 * postedAt + k)) ≡ postedOk h s
@@ -71,12 +75,14 @@ module _ (h : Head) (s : List ℕ) where
   signed : every (8 * 1024) (λ k. bitOk (8 * signedAt + k)) ≡ signedOk h s
   unfolding signedOk first inRows
   signed = region 1024 signedAt signedBy (spots h) (λ k l. (((omega arith, omega arith), (omega arith, omega arith)), omega arith))
-      (λ k l. spot-bit (k % 16) (k / 16 / 64) (k / 16 % 64) (k % 1024 % 16) (k / 1024) (k % 1024 / 16) (omega arith) (omega arith) (omega arith))
+      (λ k l. spot-bit (k % 16) (k / 16 / 64) (k / 16 % 64) (k % 1024 % 16) (k / 1024) (k % 1024 / 16) (omega arith) (omega arith)
+      (omega arith))
 
   shared : every (8 * 1024) (λ k. bitOk (8 * sharedAt + k)) ≡ sharedOk h s
   unfolding sharedOk first inRows
   shared = region 1024 sharedAt sharedBy (spots h) (λ k l. (((omega arith, omega arith), (omega arith, omega arith)), omega arith))
-      (λ k l. spot-bit (k % 16) (k / 16 / 64) (k / 16 % 64) (k % 1024 % 16) (k / 1024) (k % 1024 / 16) (omega arith) (omega arith) (omega arith))
+      (λ k l. spot-bit (k % 16) (k / 16 / 64) (k / 16 % 64) (k % 1024 % 16) (k / 1024) (k % 1024 / 16) (omega arith) (omega arith)
+      (omega arith))
 
   receipted : every (8 * 64) (λ k. bitOk (8 * receiptedAt + k)) ≡ receiptedOk h s
   unfolding receiptedOk first inRows
@@ -84,7 +90,9 @@ module _ (h : Head) (s : List ℕ) where
 
   held : every (8 * 1024) (λ k. bitOk (8 * heldAt + k)) ≡ heldOk h s
   unfolding heldOk first inRows
-  held = region 1024 heldAt heldBy (inRows (h .n) (periods * itemBytes) (cells h)) (λ k l. (((omega arith, omega arith), (omega arith, omega arith)), omega arith))
+  held =
+      region 1024 heldAt heldBy (inRows (h .n) (periods * itemBytes) (cells h))
+      (λ k l. (((omega arith, omega arith), (omega arith, omega arith)), omega arith))
       (λ k l. ap₂ _&&_ (peer-bit (h .n) (k / 64 / 8) ∙ ap (λ (a : ℕ). ltb a (h .n)) {x = k / 64 / 8} {y = k / 512} (omega arith))
       (ap₂ (λ (p i : ℕ). ltb p (h .periods) && ltb i (h .items)) {x = k / 64 % 8} {y = k % 512 / 64} (omega arith) (omega arith)))
 
@@ -93,14 +101,18 @@ module _ (h : Head) (s : List ℕ) where
   known = region 16384 databaseAt knownBy (inRows (h .n) (periods * (items * peerBytes)) (spots h))
       (λ k l. (((omega arith, omega arith), ((omega arith, omega arith), (omega arith, omega arith))), omega arith))
       (λ k l. ap₂ _&&_ (peer-bit (h .n) (k / 16 / 64 / 8) ∙ ap (λ (a : ℕ). ltb a (h .n)) {x = k / 16 / 64 / 8} {y = k / 8192} (omega arith))
-      (spot-bit (k % 16) (k / 16 / 64 % 8) (k / 16 % 64) (k % 8192 % 1024 % 16) (k % 8192 / 1024) (k % 8192 % 1024 / 16) (omega arith) (omega arith) (omega arith)))
+      (spot-bit (k % 16) (k / 16 / 64 % 8) (k / 16 % 64) (k % 8192 % 1024 % 16) (k % 8192 / 1024) (k % 8192 % 1024 / 16) (omega arith)
+      (omega arith) (omega arith)))
 
   heard : every (8 * 512) (λ k. bitOk (8 * heardAt + k)) ≡ heardOk h s
   unfolding heardOk inRows hashIn
-  heard = region 512 heardAt heardBy (inRows (h .n) entryBytes (hashIn bag)) (λ k l. ((omega arith, omega arith), omega arith)) (λ k l. ap (λ (b : Bool). b && hashIn bag (k % 256)) (peer-bit (h .n) (k / 256)))
+  heard =
+      region 512 heardAt heardBy (inRows (h .n) entryBytes (hashIn bag)) (λ k l. ((omega arith, omega arith), omega arith))
+      (λ k l. ap (λ (b : Bool). b && hashIn bag (k % 256)) (peer-bit (h .n) (k / 256)))
 
   -- a region, and what comes after it
-  then : (o a b : ℕ) (x y : Bool) → every a (λ k. bitOk (o + k)) ≡ x → every b (λ k. bitOk (o + a + k)) ≡ y → every (a + b) (λ k. bitOk (o + k)) ≡ (x && y)
+  then : (o a b : ℕ) (x y : Bool) → every a (λ k. bitOk (o + k)) ≡ x → every b (λ k. bitOk (o + a + k)) ≡ y
+      → every (a + b) (λ k. bitOk (o + k)) ≡ (x && y)
   then o a b x y p q =
       every-parts a b (λ k. bitOk (o + k))
       ∙ ap₂ _&&_ p (every-ext b (λ k. bitOk (o + (a + k))) (λ k. bitOk (o + a + k)) (λ k l. ap bitOk (omega arith)) ∙ q)
@@ -131,11 +143,16 @@ module _ (h : Head) (s : List ℕ) (m : List ℕ) where
 
     pub by-held : {r : Bool} (n : ℕ) → n ≡ h .n → r ≡ onlyIn (peers * length m) s heldAt (inRows n (length m) (bitAt m)) → r ≡ heldOk h s
     unfolding heldOk
-    by-held n i q = q ∙ rows-of-mask m _ _ e (omega arith) s heldAt peers n ∙ ap (λ (x : ℕ). onlyIn (peers * (periods * itemBytes)) s heldAt (inRows x (periods * itemBytes) (cells h))) i
+    by-held n i q =
+        q ∙ rows-of-mask m _ _ e (omega arith) s heldAt peers n
+        ∙ ap (λ (x : ℕ). onlyIn (peers * (periods * itemBytes)) s heldAt (inRows x (periods * itemBytes) (cells h))) i
 
   module _ (e : m ≡ mask (items * peerBytes) (seats h)) (p : ℕ) (ip : p ≡ h .periods) where
-    by-spots : (o : ℕ) → onlyIn (periods * length m) s o (inRows p (length m) (bitAt m)) ≡ onlyIn (periods * (items * peerBytes)) s o (spots h)
-    by-spots o = rows-of-mask m _ _ e (omega arith) s o periods p ∙ ap (λ (x : ℕ). onlyIn (periods * (items * peerBytes)) s o (inRows x (items * peerBytes) (seats h))) ip
+    by-spots : (o : ℕ)
+        → onlyIn (periods * length m) s o (inRows p (length m) (bitAt m)) ≡ onlyIn (periods * (items * peerBytes)) s o (spots h)
+    by-spots o =
+        rows-of-mask m _ _ e (omega arith) s o periods p
+        ∙ ap (λ (x : ℕ). onlyIn (periods * (items * peerBytes)) s o (inRows x (items * peerBytes) (seats h))) ip
 
     pub by-signed : {r : Bool} → r ≡ onlyIn (periods * length m) s signedAt (inRows p (length m) (bitAt m)) → r ≡ signedOk h s
     unfolding signedOk
@@ -145,17 +162,22 @@ module _ (h : Head) (s : List ℕ) (m : List ℕ) where
     unfolding sharedOk
     by-shared q = q ∙ by-spots sharedAt
 
-    pub by-known : {r : Bool} (n : ℕ) → n ≡ h .n → r ≡ onlyIn (peers * (periods * length m)) s databaseAt (inRows n (periods * length m) (inRows p (length m) (bitAt m))) → r ≡ knownOk h s
+    pub by-known : {r : Bool} (n : ℕ) → n ≡ h .n
+        → r ≡ onlyIn (peers * (periods * length m)) s databaseAt (inRows n (periods * length m) (inRows p (length m) (bitAt m)))
+        → r ≡ knownOk h s
     unfolding knownOk
     by-known n i q =
         q
         ∙ tables-of-mask m _ _ e (omega arith) s databaseAt n p
-        ∙ ap₂ (λ (x y : ℕ). onlyIn (peers * (periods * (items * peerBytes))) s databaseAt (inRows x (periods * (items * peerBytes)) (inRows y (items * peerBytes) (seats h)))) i ip
+        ∙ ap₂ (λ (x y : ℕ). onlyIn (peers * (periods * (items * peerBytes))) s databaseAt
+        (inRows x (periods * (items * peerBytes)) (inRows y (items * peerBytes) (seats h)))) i ip
 
   module _ (e : m ≡ mask entryBytes (hashIn (contents s .bag))) where
     pub by-heard : {r : Bool} (n : ℕ) → n ≡ h .n → r ≡ onlyIn (peers * length m) s heardAt (inRows n (length m) (bitAt m)) → r ≡ heardOk h s
     unfolding heardOk
-    by-heard n i q = q ∙ rows-of-mask m _ _ e (omega arith) s heardAt peers n ∙ ap (λ (x : ℕ). onlyIn (peers * entryBytes) s heardAt (inRows x entryBytes (hashIn (contents s .bag)))) i
+    by-heard n i q =
+        q ∙ rows-of-mask m _ _ e (omega arith) s heardAt peers n
+        ∙ ap (λ (x : ℕ). onlyIn (peers * entryBytes) s heardAt (inRows x entryBytes (hashIn (contents s .bag)))) i
 
 -- and all of them
 pub by-facts : (h : Head) (s : List ℕ) (r : Bool) → r ≡ (itemSetsOk h s && (peerSetsOk h s && heardOk h s)) → r ≡ factsOk h s

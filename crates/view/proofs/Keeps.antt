@@ -35,7 +35,8 @@ hash-stays (a ∷ l) m (suc e) h = hash-stays l m e h
 
 module _ (c : Contents) (S : Sound c) where
   -- what is heard, the flags and the bag are left alone
-  untouched : (d : Contents) → ((j e : ℕ) → d .has (Heard j e) ≡ c .has (Heard j e)) → ((j : ℕ) → d .number (DownOf j) ≡ c .number (DownOf j)) → d .bag ≡ c .bag → Sound d
+  untouched : (d : Contents) → ((j e : ℕ) → d .has (Heard j e) ≡ c .has (Heard j e))
+      → ((j : ℕ) → d .number (DownOf j) ≡ c .number (DownOf j)) → d .bag ≡ c .bag → Sound d
   untouched d h n b = record { hears = λ j e q. rw b (S .hears j e (rw h at q)); flags = λ j. rw (n j) (S .flags j) }
 
   enter-sound : (e : Entry) → Sound (enterOn e c)
@@ -50,7 +51,8 @@ module _ (c : Contents) (S : Sound c) where
   unfolding insert adding
   hear-sound j e h = record { hears = λ k a q. go k a (either (eqb k j && eqb a e)) q; flags = S .flags }
     where
-      go : (k a : ℕ) → (eqb k j && eqb a e ≡ true) ⊎ (eqb k j && eqb a e ≡ false) → (eqb k j && eqb a e) || c .has (Heard k a) ≡ true → isHash (entryAt (c .bag) a) ≡ true
+      go : (k a : ℕ) → (eqb k j && eqb a e ≡ true) ⊎ (eqb k j && eqb a e ≡ false)
+          → (eqb k j && eqb a e) || c .has (Heard k a) ≡ true → isHash (entryAt (c .bag) a) ≡ true
       go k a (inl u) q = rw (eqb-true a e (and-r (eqb k j) _ u)) h
       go k a (inr u) q = S .hears k a (rw u at q)
 

@@ -41,7 +41,8 @@ module _ (c : Contents) (S : Sound c) where
 
   heard-still : (e : Entry) → stateOf (withEntry e c) .heard ≡ stateOf c .heard
   unfolding withEntry
-  heard-still e = fun-ext (λ j. fun-ext (λ k. fun-ext (λ p. fun-ext (λ B. told-new (λ a. c .has (Heard j a)) (c .bag) e k p B (unheard j)))))
+  heard-still e =
+      fun-ext (λ j. fun-ext (λ k. fun-ext (λ p. fun-ext (λ B. told-new (λ a. c .has (Heard j a)) (c .bag) e k p B (unheard j)))))
 
   enter-meets : (e : Entry) → stateOf (enterOn e c) ≡ with-bag (stateOf c) (enter e (c .bag))
   unfolding enterOn enter withEntry
@@ -52,24 +53,28 @@ module _ (c : Contents) (S : Sound c) where
       go (inl t) = rw t
       go (inr f) = rw f (ap (with-heard (with-bag (stateOf c) (c .bag ++ (e ∷ [])))) (heard-still e))
 
-  back-meets : (j v : ℕ) (e : Entry) → stateOf (store (ToBackOf j) v (enterOn e c)) ≡ with-toBack (with-bag (stateOf c) (enter e (c .bag))) (setAt j v (stateOf c .toBack))
+  back-meets : (j v : ℕ) (e : Entry)
+      → stateOf (store (ToBackOf j) v (enterOn e c)) ≡ with-toBack (with-bag (stateOf c) (enter e (c .bag))) (setAt j v (stateOf c .toBack))
   unfolding store setAt
   back-meets j v e = λ i. with-toBack (enter-meets e i) (λ k. cond (eqb k j) v (enter-meets e i .toBack k))
 
   -- the entry heard is the hash that it is
-  as-hash : (a : Entry) (b : Bool) (k p B : ℕ) → isHash a ≡ true → (b && sameEntry (Hash k p B) a) ≡ (b && (eqb k (signerOf a) && (eqb p (periodOf a) && eqb B (boardOf a))))
+  as-hash : (a : Entry) (b : Bool) (k p B : ℕ) → isHash a ≡ true
+      → (b && sameEntry (Hash k p B) a) ≡ (b && (eqb k (signerOf a) && (eqb p (periodOf a) && eqb B (boardOf a))))
   unfolding sameEntry
   as-hash (Hash l q C) b k p B h = refl
   as-hash (Backing l q C) b k p B h = false-true h
   as-hash (Board q C) b k p B h = false-true h
 
-  told-if : (b : Bool) (H : ℕ → Bool) (e k p B : ℕ) → told (λ a. (b && eqb a e) || H a) 0 (c .bag) k p B ≡ ((b && sameEntry (Hash k p B) (entryAt (c .bag) e)) || told H 0 (c .bag) k p B)
+  told-if : (b : Bool) (H : ℕ → Bool) (e k p B : ℕ)
+      → told (λ a. (b && eqb a e) || H a) 0 (c .bag) k p B ≡ ((b && sameEntry (Hash k p B) (entryAt (c .bag) e)) || told H 0 (c .bag) k p B)
   unfolding add1
   told-if true H e k p B = told-hear H e (c .bag) k p B
   told-if false H e k p B = refl
 
   hear-meets : (j e : ℕ) → isHash (entryAt (c .bag) e) ≡ true
-      → stateOf (insert (Heard j e) c) ≡ with-heard (stateOf c) (add4 j (signerOf (entryAt (c .bag) e)) (periodOf (entryAt (c .bag) e)) (boardOf (entryAt (c .bag) e)) (stateOf c .heard))
+      → stateOf (insert (Heard j e) c) ≡ with-heard (stateOf c)
+      (add4 j (signerOf (entryAt (c .bag) e)) (periodOf (entryAt (c .bag) e)) (boardOf (entryAt (c .bag) e)) (stateOf c .heard))
   unfolding insert adding add4
   hear-meets j e h = ap (with-heard (stateOf c)) (fun-ext (λ l. fun-ext (λ k. fun-ext (λ p. fun-ext (λ B.
       told-if (eqb l j) (λ a. c .has (Heard l a)) e k p B

@@ -24,13 +24,15 @@ is-quorum h clash set S l same below =
     ap (leb (h .t)) (weight-ext (weightOf h) room (member set) S same ∙ weight-among (weightOf h) (h .n) room S l below)
 
 module _ (h : Head) (s : List ℕ) (R : Ready h s) where
-  pub signers-quorum : (j p x : ℕ) → reaches h (signersOf (contents s) j p x .0) ≡ quorum (tableOf h noClash) (λ k. contents s .has (Known j p x k))
+  pub signers-quorum : (j p x : ℕ)
+      → reaches h (signersOf (contents s) j p x .0) ≡ quorum (tableOf h noClash) (λ k. contents s .has (Known j p x k))
   unfolding signersOf
   signers-quorum j p x =
       let S : ℕ → Bool = λ k. contents s .has (Known j p x k) in
       is-quorum h noClash _ S (R .room .peers) (member-pack room S) (λ k q. R .good noClash .valid .sets .knows j p x k q .1 .1)
 
-  pub sharers-quorum : (p x : ℕ) → reaches h (sharersOf (contents s) p x .0) ≡ quorum (tableOf h noClash) (λ k. contents s .has (Shared k p x))
+  pub sharers-quorum : (p x : ℕ)
+      → reaches h (sharersOf (contents s) p x .0) ≡ quorum (tableOf h noClash) (λ k. contents s .has (Shared k p x))
   unfolding sharersOf
   sharers-quorum p x =
       let S : ℕ → Bool = λ k. contents s .has (Shared k p x) in

@@ -6,12 +6,20 @@ use Rattle.header.specs.declared.Head.{Head}
 use Rattle.view.specs.View.{tableOf}
 use Rattle.view.specs.Good.{Good}
 
-pub good-whatever : (h : Head) (clash : ℕ → ℕ → Bool) (c : Contents) → Good (tableOf h clash) c → (other : ℕ → ℕ → Bool) → Good (tableOf h other) c
+pub good-whatever : (h : Head) (clash : ℕ → ℕ → Bool) (c : Contents) → Good (tableOf h clash) c → (other : ℕ → ℕ → Bool)
+    → Good (tableOf h other) c
 good-whatever h clash c G other =
     let W = G .valid in
     record {
       valid = record {
-        sets = record { posts = W .sets .posts; signs = W .sets .signs; shares = W .sets .shares; receipts = W .sets .receipts; holds = W .sets .holds; knows = W .sets .knows };
+        sets = record {
+          posts = W .sets .posts;
+          signs = W .sets .signs;
+          shares = W .sets .shares;
+          receipts = W .sets .receipts;
+          holds = W .sets .holds;
+          knows = W .sets .knows;
+        };
         counters = record { opens = W .counters .opens; behind = W .counters .behind; peers = W .counters .peers };
         down = W .down;
         bag = record { size = W .bag .size; entries = W .bag .entries; apart = W .bag .apart };

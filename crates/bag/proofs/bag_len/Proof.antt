@@ -6,14 +6,10 @@ use borrow.Author.Needs.{needs}
 use Rattle.bag.proofs.bag_len.Statement.{statement}
 use Rattle.bag.proofs.bag_len.Tie as tie
 
-word-requires : tie.Need-word-requires
-word-requires c κs = search needs
-
-cast-result : tie.Need-cast-result
-cast-result c = search needs
-
 returns : tie.Need-returns
-returns c = let s = c .before .before .args .s .now in (c .word .ensures ∙ sym (bag-length s), omega (arith, c .word .ensures, c .before .before .pre .counted))
+returns c =
+    let s = c .before .before .args .s .now in
+    (c .word .ensures ∙ sym (bag-length s), omega (arith, c .word .ensures, c .before .before .pre .counted))
 
 pub bag-len-spec : {M : Type 1} → statement M
-bag-len-spec = tie.close (tie.spec word-requires cast-result returns)
+bag-len-spec = tie.close (tie.spec (λ c κs. search needs) (λ c. search needs) returns)

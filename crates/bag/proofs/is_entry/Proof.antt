@@ -11,20 +11,11 @@ mul-o c = let a = c .before .pre in record { fits = omega (arith, entry-few _ _ 
 add-o : tie.Need-add-o
 add-o c = let a = c .before .pre in record { fits = omega (arith, entry-few _ _ (a .0) (a .1)) }
 
-enum-known-x : tie.Need-enum-known-x
-enum-known-x c = search needs
-
 is-written-requires : tie.Need-is-written-requires
 is-written-requires c κs = search entry-inside
 
-enum-known-x-2 : tie.Need-enum-known-x-2
-enum-known-x-2 c = search needs
-
 is-written-requires-2 : tie.Need-is-written-requires-2
 is-written-requires-2 c κs = search entry-inside
-
-enum-known-x-3 : tie.Need-enum-known-x-3
-enum-known-x-3 c = search needs
 
 is-written-requires-3 : tie.Need-is-written-requires-3
 is-written-requires-3 c κs = search entry-inside
@@ -44,11 +35,11 @@ is-entry-spec =
     (tie.spec
     mul-o
     add-o
-    enum-known-x
+    (λ c. search needs)
     is-written-requires
-    enum-known-x-2
+    (λ c. search needs)
     is-written-requires-2
-    enum-known-x-3
+    (λ c. search needs)
     is-written-requires-3
     returns
     returns-2

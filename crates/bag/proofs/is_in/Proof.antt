@@ -12,23 +12,11 @@ Inv-loop s x n e₀ e = (e ≤ n) × Missed x (contents s .bag) e
 abbrev μ-loop : tie.MeasureT-loop
 μ-loop s x n e₀ e = n - e
 
-bag-len-requires : tie.Need-bag-len-requires Inv-loop μ-loop
-bag-len-requires c κs = search needs
-
 loop-holds : tie.Need-loop-holds Inv-loop μ-loop
 loop-holds c = (search needs, search missed-none)
 
-is-entry-requires : tie.Need-is-entry-requires Inv-loop μ-loop
-is-entry-requires c κs = search needs
-
 returns : tie.Need-returns Inv-loop μ-loop
 returns c = search found
-
-add-e : tie.Need-add-e Inv-loop μ-loop
-add-e c = search needs
-
-loop-less : tie.Need-loop-less Inv-loop μ-loop
-loop-less c = search needs
 
 loop-again : tie.Need-loop-again Inv-loop μ-loop
 loop-again c = (search needs, search missed-more)
@@ -42,11 +30,11 @@ is-in-spec =
     (tie.spec
     Inv-loop
     μ-loop
-    bag-len-requires
+    (λ c κs. search needs)
     loop-holds
-    is-entry-requires
+    (λ c κs. search needs)
     returns
-    add-e
-    loop-less
+    (λ c. search needs)
+    (λ c. search needs)
     loop-again
     returns-2)

@@ -7,23 +7,11 @@ use borrow.Author.Needs.{needs}
 use Rattle.bag.proofs.write.Statement.{statement}
 use Rattle.bag.proofs.write.Tie as tie
 
-slice-write-s : tie.Need-slice-write-s
-slice-write-s c = search needs
-
-add-s : tie.Need-add-s
-add-s c = search needs
-
 slice-write-s-2 : tie.Need-slice-write-s-2
 slice-write-s-2 c = simp length-set (omega arith)
 
-add-s-2 : tie.Need-add-s-2
-add-s-2 c = search needs
-
 slice-write-s-3 : tie.Need-slice-write-s-3
 slice-write-s-3 c = simp length-set (omega arith)
-
-add-store : tie.Need-add-store
-add-store c = search needs
 
 store-requires : tie.Need-store-requires
 store-requires c κs = simp length-set (omega arith)
@@ -39,12 +27,12 @@ pub write-spec : {M : Type 1} → statement M
 write-spec =
     tie.close
     (tie.spec
-    slice-write-s
-    add-s
+    (λ c. search needs)
+    (λ c. search needs)
     slice-write-s-2
-    add-s-2
+    (λ c. search needs)
     slice-write-s-3
-    add-store
+    (λ c. search needs)
     store-requires
     same-length
     returns)

@@ -9,18 +9,9 @@ use borrow.Author.Needs.{needs}
 use Rattle.bits.proofs.has.Statement.{statement}
 use Rattle.bits.proofs.has.Tie as tie
 
-shared-slice-read-result : tie.Need-shared-slice-read-result
-shared-slice-read-result c = search needs
-
-cast-result : tie.Need-cast-result
-cast-result c = search needs
-
-shr-result : tie.Need-shr-result
-shr-result c = search needs
-
 returns : tie.Need-returns
 unfolding bitAt
 returns c = sym (bit-shr (getD (now (c .before .args .s)) (c .before .args .a / 8) 0) (c .before .args .a % 8))
 
 pub has-spec : {M : Type 1} → statement M
-has-spec = tie.close (tie.spec shared-slice-read-result cast-result shr-result returns)
+has-spec = tie.close (tie.spec (λ c. search needs) (λ c. search needs) (λ c. search needs) returns)

@@ -7,11 +7,8 @@ use Rattle.bits.proofs.is_below.Tie as tie
 returns : tie.Need-returns
 returns c = search (needs, all-below)
 
-shr-result : tie.Need-shr-result
-shr-result c = search needs
-
 returns-2 : tie.Need-returns-2
 returns-2 c = search none-above
 
 pub is-below-spec : {M : Type 1} → statement M
-is-below-spec = tie.close (tie.spec returns shr-result returns-2)
+is-below-spec = tie.close (tie.spec returns (λ c. search needs) returns-2)

@@ -17,29 +17,22 @@ abbrev μ-loop : tie.MeasureT-loop
 loop-holds : tie.Need-loop-holds Inv-loop μ-loop
 loop-holds c = (search needs, load-none _ _ _)
 
-sub-i : tie.Need-sub-i Inv-loop μ-loop
-sub-i c = search needs
-
 mul-v : tie.Need-mul-v Inv-loop μ-loop
 mul-v c = let a = c .before .before in
-    omega (arith, load-room _ _ _ _ _ (λ k. a .shared-slice-known .given k .fits) (a .before .pre .0) (c .loop-test .taken) (c .before .loop .inv .1))
-
-add-wide64 : tie.Need-add-wide64 Inv-loop μ-loop
-add-wide64 c = search needs
-
-shared-slice-read-wide64 : tie.Need-shared-slice-read-wide64 Inv-loop μ-loop
-shared-slice-read-wide64 c = search needs
-
-wide64-requires : tie.Need-wide64-requires Inv-loop μ-loop
-wide64-requires c κs = search needs
+    omega (
+      arith,
+      load-room _ _ _ _ _ (λ k. a .shared-slice-known .given k .fits) (a .before .pre .0) (c .loop-test .taken)
+          (c .before .loop .inv .1),
+    )
 
 add-v : tie.Need-add-v Inv-loop μ-loop
 add-v c = let t = c .before .before in
     let a = t .before .before in
-    omega (arith, load-room _ _ _ _ _ (λ k. a .shared-slice-known .given k .fits) (a .before .pre .0) (t .loop-test .taken) (t .before .loop .inv .1))
-
-loop-less : tie.Need-loop-less Inv-loop μ-loop
-loop-less c = search needs
+    omega (
+      arith,
+      load-room _ _ _ _ _ (λ k. a .shared-slice-known .given k .fits) (a .before .pre .0) (t .loop-test .taken)
+          (t .before .loop .inv .1),
+    )
 
 loop-again : tie.Need-loop-again Inv-loop μ-loop
 loop-again c = (search needs, search load-more)
@@ -54,12 +47,12 @@ load-spec =
     Inv-loop
     μ-loop
     loop-holds
-    sub-i
+    (λ c. search needs)
     mul-v
-    add-wide64
-    shared-slice-read-wide64
-    wide64-requires
+    (λ c. search needs)
+    (λ c. search needs)
+    (λ c κs. search needs)
     add-v
-    loop-less
+    (λ c. search needs)
     loop-again
     returns)

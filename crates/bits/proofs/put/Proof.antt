@@ -5,23 +5,8 @@ use borrow.Author.Needs.{needs}
 use Rattle.bits.proofs.put.Statement.{statement}
 use Rattle.bits.proofs.put.Tie as tie
 
-slice-read-s : tie.Need-slice-read-s
-slice-read-s c = search needs
-
-cast-s : tie.Need-cast-s
-cast-s c = search needs
-
-shl-s : tie.Need-shl-s
-shl-s c = search needs
-
-slice-write-s : tie.Need-slice-write-s
-slice-write-s c = search needs
-
-same-length : tie.Need-same-length
-same-length c = search needs
-
 returns : tie.Need-returns
 returns c = is-put _ _ _ refl
 
 pub put-spec : {M : Type 1} → statement M
-put-spec = tie.close (tie.spec slice-read-s cast-s shl-s slice-write-s same-length returns)
+put-spec = tie.close (tie.spec (λ c. search needs) (λ c. search needs) (λ c. search needs) (λ c. search needs) (λ c. search needs) returns)

@@ -18,26 +18,15 @@ abbrev μ-loop : tie.MeasureT-loop
 loop-holds : tie.Need-loop-holds Inv-loop μ-loop
 loop-holds c = (search needs, (refl, rw (add-zero, sub-zero)))
 
-cast-s : tie.Need-cast-s Inv-loop μ-loop
-cast-s c = search needs
-
-add-s : tie.Need-add-s Inv-loop μ-loop
-add-s c = search needs
-
-slice-write-s : tie.Need-slice-write-s Inv-loop μ-loop
-slice-write-s c = search needs
-
-add-i : tie.Need-add-i Inv-loop μ-loop
-add-i c = search needs
-
-loop-less : tie.Need-loop-less Inv-loop μ-loop
-loop-less c = search needs
-
 loop-again : tie.Need-loop-again Inv-loop μ-loop
-loop-again c = (search needs, (simp length-set (c .before .loop .inv .1 .0), store-more _ _ _ _ _ _ (c .loop-test .taken) (c .before .loop .inv .1 .1)))
-
-same-length : tie.Need-same-length Inv-loop μ-loop
-same-length c = search needs
+loop-again c = (
+  search needs,
+  (
+    simp length-set (c .before .loop .inv .1 .0),
+    store-more _ _ _ _ _ _ (c .loop-test .taken)
+        (c .before .loop .inv .1 .1),
+  ),
+)
 
 returns : tie.Need-returns Inv-loop μ-loop
 returns c = store-end _ _ _ _ _ _ (c .loop-test .left) (c .before .loop .inv .1 .1)
@@ -49,11 +38,11 @@ store-spec =
     Inv-loop
     μ-loop
     loop-holds
-    cast-s
-    add-s
-    slice-write-s
-    add-i
-    loop-less
+    (λ c. search needs)
+    (λ c. search needs)
+    (λ c. search needs)
+    (λ c. search needs)
+    (λ c. search needs)
     loop-again
-    same-length
+    (λ c. search needs)
     returns)

@@ -10,22 +10,13 @@ returns : tie.Need-returns
 unfolding stateOk
 returns c = search by-tests depth 12
 
-bag-ok-requires : tie.Need-bag-ok-requires
-bag-ok-requires c κs = search needs
-
 returns-2 : tie.Need-returns-2
 unfolding stateOk
 returns-2 c = search by-tests depth 12
 
-peers-ok-requires : tie.Need-peers-ok-requires
-peers-ok-requires c κs = search needs
-
 returns-3 : tie.Need-returns-3
 unfolding stateOk
 returns-3 c = search by-tests depth 12
-
-count-of-requires : tie.Need-count-of-requires
-count-of-requires c κs = search needs
 
 facts-ok-requires : tie.Need-facts-ok-requires
 facts-ok-requires c κs = search few-entries depth 12
@@ -39,10 +30,10 @@ state-ok-spec =
     tie.close
     (tie.spec
     returns
-    bag-ok-requires
+    (λ c κs. search needs)
     returns-2
-    peers-ok-requires
+    (λ c κs. search needs)
     returns-3
-    count-of-requires
+    (λ c κs. search needs)
     facts-ok-requires
     returns-4)

@@ -4,11 +4,8 @@ use borrow.Author.Needs.{needs}
 use Rattle.bag_guard.proofs.boards.board_by.Statement.{statement}
 use Rattle.bag_guard.proofs.boards.board_by.Tie as tie
 
-board-of-requires : tie.Need-board-of-requires
-board-of-requires c κs = search needs
-
 returns : tie.Need-returns
 returns c = search board-found
 
 pub board-by-spec : {M : Type 1} → statement M
-board-by-spec = tie.close (tie.spec board-of-requires returns)
+board-by-spec = tie.close (tie.spec (λ c κs. search needs) returns)

@@ -3,14 +3,8 @@ use borrow.Author.Needs.{needs}
 use Rattle.bag_guard.proofs.boards.no_room_for_board.Statement.{statement}
 use Rattle.bag_guard.proofs.boards.no_room_for_board.Tie as tie
 
-board-named-requires : tie.Need-board-named-requires
-board-named-requires c κs = search needs
-
-is-full-requires : tie.Need-is-full-requires
-is-full-requires c κs = search needs
-
 returns : tie.Need-returns
 returns c = rw (c .is-full .ensures, c .before .board-named .ensures)
 
 pub no-room-for-board-spec : {M : Type 1} → statement M
-no-room-for-board-spec = tie.close (tie.spec board-named-requires is-full-requires returns)
+no-room-for-board-spec = tie.close (tie.spec (λ c κs. search needs) (λ c κs. search needs) returns)

@@ -6,14 +6,8 @@ use borrow.Author.Needs.{needs}
 use Rattle.bag_guard.proofs.entry.not_backing.Statement.{statement}
 use Rattle.bag_guard.proofs.entry.not_backing.Tie as tie
 
-entry-at-requires : tie.Need-entry-at-requires
-entry-at-requires c κs = search needs
-
-is-backing-requires : tie.Need-is-backing-requires
-is-backing-requires c κs = search needs
-
 returns : tie.Need-returns
 returns c = negated (c .is-backing .ensures ∙ ap isBacking (c .before .entry-at .ensures))
 
 pub not-backing-spec : {M : Type 1} → statement M
-not-backing-spec = tie.close (tie.spec entry-at-requires is-backing-requires returns)
+not-backing-spec = tie.close (tie.spec (λ c κs. search needs) (λ c κs. search needs) returns)

@@ -7,14 +7,8 @@ use borrow.Author.Needs.{needs}
 use Rattle.bag_guard.proofs.entry.not_hash.Statement.{statement}
 use Rattle.bag_guard.proofs.entry.not_hash.Tie as tie
 
-entry-at-requires : tie.Need-entry-at-requires
-entry-at-requires c κs = search needs
-
-is-hash-requires : tie.Need-is-hash-requires
-is-hash-requires c κs = search needs
-
 returns : tie.Need-returns
 returns c = negated (c .is-hash .ensures ∙ ap isHash (c .before .entry-at .ensures))
 
 pub not-hash-spec : {M : Type 1} → statement M
-not-hash-spec = tie.close (tie.spec entry-at-requires is-hash-requires returns)
+not-hash-spec = tie.close (tie.spec (λ c κs. search needs) (λ c κs. search needs) returns)

@@ -4,26 +4,15 @@ use borrow.Author.Needs.{needs}
 use Rattle.bag_guard.proofs.signers.with_heard_signer.Statement.{statement}
 use Rattle.bag_guard.proofs.signers.with_heard_signer.Tie as tie
 
-signer-at-requires : tie.Need-signer-at-requires
-signer-at-requires c κs = search needs
-
 returns : tie.Need-returns
 returns c = let a = c .before .before .before .args in heard-none _ _ _ _ _ (a .set .0) _ (c .before .signer-at .ensures) (c .if1 .taken)
-
-cast-is-heard-by : tie.Need-cast-is-heard-by
-cast-is-heard-by c = search needs
-
-is-heard-by-requires : tie.Need-is-heard-by-requires
-is-heard-by-requires c κs = search needs
-
-with-signer-requires : tie.Need-with-signer-requires
-with-signer-requires c κs = search needs
 
 returns-2 : tie.Need-returns-2
 returns-2 c = let t = c .before in
     let h = t .before in
     let k = h .before .before in
-    heard-more _ _ _ _ _ (k .before .before .args .set .0) _ (k .signer-at .ensures) (h .is-heard-by .ensures) (t .if2 .taken) (c .with-signer .ensures)
+    heard-more _ _ _ _ _ (k .before .before .args .set .0) _ (k .signer-at .ensures) (h .is-heard-by .ensures) (t .if2 .taken)
+    (c .with-signer .ensures)
 
 returns-3 : tie.Need-returns-3
 returns-3 c = let h = c .before in
@@ -34,10 +23,10 @@ pub with-heard-signer-spec : {M : Type 1} → statement M
 with-heard-signer-spec =
     tie.close
     (tie.spec
-    signer-at-requires
+    (λ c κs. search needs)
     returns
-    cast-is-heard-by
-    is-heard-by-requires
-    with-signer-requires
+    (λ c. search needs)
+    (λ c κs. search needs)
+    (λ c κs. search needs)
     returns-2
     returns-3)

@@ -10,11 +10,8 @@ has-requires c κs = search mark-fits
 returns : tie.Need-returns
 returns c = search unseen-new
 
-is-before-requires : tie.Need-is-before-requires
-is-before-requires c κs = search needs
-
 returns-2 : tie.Need-returns-2
 returns-2 c = search before-new
 
 pub is-new-spec : {M : Type 1} → statement M
-is-new-spec = tie.close (tie.spec has-requires returns is-before-requires returns-2)
+is-new-spec = tie.close (tie.spec has-requires returns (λ c κs. search needs) returns-2)

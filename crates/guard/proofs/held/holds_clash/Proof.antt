@@ -4,11 +4,8 @@ use borrow.Author.Needs.{needs}
 use Rattle.guard.proofs.held.holds_clash.Statement.{statement}
 use Rattle.guard.proofs.held.holds_clash.Tie as tie
 
-ever-holds-requires : tie.Need-ever-holds-requires
-ever-holds-requires c κs = search needs
-
 returns : tie.Need-returns
 returns c = search clash-common
 
 pub holds-clash-spec : {M : Type 1} → statement M
-holds-clash-spec = tie.close (tie.spec ever-holds-requires returns)
+holds-clash-spec = tie.close (tie.spec (λ c κs. search needs) returns)

@@ -4,11 +4,8 @@ use borrow.Author.Needs.{needs}
 use Rattle.guard.proofs.items.not_posted.Statement.{statement}
 use Rattle.guard.proofs.items.not_posted.Tie as tie
 
-is-posted-requires : tie.Need-is-posted-requires
-is-posted-requires c κs = search needs
-
 returns : tie.Need-returns
 returns c = search read-tests
 
 pub not-posted-spec : {M : Type 1} → statement M
-not-posted-spec = tie.close (tie.spec is-posted-requires returns)
+not-posted-spec = tie.close (tie.spec (λ c κs. search needs) returns)

@@ -4,11 +4,8 @@ use borrow.Author.Needs.{needs}
 use Rattle.guard.proofs.items.not_signed.Statement.{statement}
 use Rattle.guard.proofs.items.not_signed.Tie as tie
 
-is-signed-requires : tie.Need-is-signed-requires
-is-signed-requires c κs = search needs
-
 returns : tie.Need-returns
 returns c = search read-tests
 
 pub not-signed-spec : {M : Type 1} → statement M
-not-signed-spec = tie.close (tie.spec is-signed-requires returns)
+not-signed-spec = tie.close (tie.spec (λ c κs. search needs) returns)

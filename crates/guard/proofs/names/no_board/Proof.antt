@@ -4,11 +4,8 @@ use borrow.Author.Needs.{needs}
 use Rattle.guard.proofs.names.no_board.Statement.{statement}
 use Rattle.guard.proofs.names.no_board.Tie as tie
 
-is-below-requires : tie.Need-is-below-requires
-is-below-requires c κs = search needs
-
 returns : tie.Need-returns
 returns c = search read-tests
 
 pub no-board-spec : {M : Type 1} → statement M
-no-board-spec = tie.close (tie.spec is-below-requires returns)
+no-board-spec = tie.close (tie.spec (λ c κs. search needs) returns)

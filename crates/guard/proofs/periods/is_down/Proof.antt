@@ -4,11 +4,8 @@ use borrow.Author.Needs.{needs}
 use Rattle.guard.proofs.periods.is_down.Statement.{statement}
 use Rattle.guard.proofs.periods.is_down.Tie as tie
 
-down-of-requires : tie.Need-down-of-requires
-down-of-requires c κs = search needs
-
 returns : tie.Need-returns
 returns c = search read-tests
 
 pub is-down-spec : {M : Type 1} → statement M
-is-down-spec = tie.close (tie.spec down-of-requires returns)
+is-down-spec = tie.close (tie.spec (λ c κs. search needs) returns)

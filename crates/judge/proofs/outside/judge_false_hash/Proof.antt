@@ -33,7 +33,8 @@ unfolding answer rule
 returns-4 c = search row depth 10
 
 unposted-requires : tie.Need-unposted-requires
-unposted-requires c κs = (search asked, search asked, of-items _ _ (c .before .before .before .no-board .ensures) (c .before .before .if3 .left))
+unposted-requires c κs =
+    (search asked, search asked, of-items _ _ (c .before .before .before .no-board .ensures) (c .before .before .if3 .left))
 
 returns-5 : tie.Need-returns-5
 unfolding answer rule

@@ -7,14 +7,12 @@ use borrow.Author.Needs.{needs}
 use Rattle.judge.proofs.own.few_heard_own.Statement.{statement}
 use Rattle.judge.proofs.own.few_heard_own.Tie as tie
 
-few-heard-requires : tie.Need-few-heard-requires
-few-heard-requires c κs = search needs
-
 returns : tie.Need-returns
 returns c =
     let a = c .before .before in
     let held = contents (now (a .args .s)) in
-    own-heard (held .bag) (a .args .j) (tableOf (a .args .h) noClash) (stateOf held .heard (a .args .j)) _ _ _ _ (c .few-heard .ensures) (a .pre .1) (a .pre .2)
+    own-heard (held .bag) (a .args .j) (tableOf (a .args .h) noClash) (stateOf held .heard (a .args .j)) _ _ _ _ (c .few-heard .ensures)
+    (a .pre .1) (a .pre .2)
 
 pub few-heard-own-spec : {M : Type 1} → statement M
-few-heard-own-spec = tie.close (tie.spec few-heard-requires returns)
+few-heard-own-spec = tie.close (tie.spec (λ c κs. search needs) returns)

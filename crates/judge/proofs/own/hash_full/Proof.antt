@@ -4,11 +4,8 @@ use borrow.Author.Needs.{needs}
 use Rattle.judge.proofs.own.hash_full.Statement.{statement}
 use Rattle.judge.proofs.own.hash_full.Tie as tie
 
-is-full-requires : tie.Need-is-full-requires
-is-full-requires c κs = search needs
-
 returns : tie.Need-returns
 returns c = own-hash _ _ _ _ _ (c .is-full .ensures) (c .before .before .pre .1)
 
 pub hash-full-spec : {M : Type 1} → statement M
-hash-full-spec = tie.close (tie.spec is-full-requires returns)
+hash-full-spec = tie.close (tie.spec (λ c κs. search needs) returns)

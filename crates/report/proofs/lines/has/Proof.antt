@@ -5,11 +5,8 @@ use borrow.Author.Needs.{needs}
 use Rattle.report.proofs.lines.has.Statement.{statement}
 use Rattle.report.proofs.lines.has.Tie as tie
 
-shr-result : tie.Need-shr-result
-shr-result c = search needs
-
 returns : tie.Need-returns
 returns c = sym (bit-shr _ _)
 
 pub has-spec : {M : Type 1} → statement M
-has-spec = tie.close (tie.spec shr-result returns)
+has-spec = tie.close (tie.spec (λ c. search needs) returns)

@@ -5,30 +5,6 @@ use borrow.Author.Needs.{needs}
 use Rattle.report.proofs.lines.put_db.Statement.{statement}
 use Rattle.report.proofs.lines.put_db.Tie as tie
 
-slice-aggregate-put-word : tie.Need-slice-aggregate-put-word
-slice-aggregate-put-word c = search needs
-
-put-word-requires : tie.Need-put-word-requires
-put-word-requires c κs = search needs
-
-put-small-requires : tie.Need-put-small-requires
-put-small-requires c κs = search needs
-
-put-small-requires-2 : tie.Need-put-small-requires-2
-put-small-requires-2 c κs = search needs
-
-put-small-requires-3 : tie.Need-put-small-requires-3
-put-small-requires-3 c κs = search needs
-
-put-field-requires : tie.Need-put-field-requires
-put-field-requires c κs = search needs
-
-put-byte-requires : tie.Need-put-byte-requires
-put-byte-requires c κs = search needs
-
-same-length : tie.Need-same-length
-same-length c = search needs
-
 returns : tie.Need-returns
 unfolding dbLine
 returns c =
@@ -38,18 +14,19 @@ returns c =
     let period = item .before .before .before .before in
     let peer = period .before .before .before .before in
     let word = peer .before .before .before .before in
-    word .put-word .ensures ▷ peer .put-small .ensures ▷ period .put-small2 .ensures ▷ item .put-small3 .ensures ▷ signers .put-field .ensures ▷ last .put-byte .ensures
+    word .put-word .ensures ▷ peer .put-small .ensures ▷ period .put-small2 .ensures ▷ item .put-small3 .ensures
+    ▷ signers .put-field .ensures ▷ last .put-byte .ensures
 
 pub put-db-spec : {M : Type 1} → statement M
 put-db-spec =
     tie.close
     (tie.spec
-    slice-aggregate-put-word
-    put-word-requires
-    put-small-requires
-    put-small-requires-2
-    put-small-requires-3
-    put-field-requires
-    put-byte-requires
-    same-length
+    (λ c. search needs)
+    (λ c κs. search needs)
+    (λ c κs. search needs)
+    (λ c κs. search needs)
+    (λ c κs. search needs)
+    (λ c κs. search needs)
+    (λ c κs. search needs)
+    (λ c. search needs)
     returns)

@@ -5,15 +5,6 @@ use borrow.Author.Needs.{needs}
 use Rattle.report.proofs.lines.put_item.Statement.{statement}
 use Rattle.report.proofs.lines.put_item.Tie as tie
 
-has-requires : tie.Need-has-requires
-has-requires c κs = search needs
-
-put-small-requires : tie.Need-put-small-requires
-put-small-requires c κs = search needs
-
-same-length : tie.Need-same-length
-same-length c = search needs
-
 returns : tie.Need-returns
 unfolding boardItem
 returns c = search kept depth 6
@@ -23,4 +14,4 @@ unfolding boardItem
 returns-2 c = search left-out depth 6
 
 pub put-item-spec : {M : Type 1} → statement M
-put-item-spec = tie.close (tie.spec has-requires put-small-requires same-length returns returns-2)
+put-item-spec = tie.close (tie.spec (λ c κs. search needs) (λ c κs. search needs) (λ c. search needs) returns returns-2)

@@ -15,20 +15,8 @@ Inv-loop out₀ at s h n to₀ e₀ out to e = (e ≤ n) × Wrote out₀ at (eac
 abbrev μ-loop : tie.MeasureT-loop
 μ-loop out₀ at s h n to₀ e₀ out to e = n - e
 
-bag-len-requires : tie.Need-bag-len-requires Inv-loop μ-loop
-bag-len-requires c κs = search needs
-
 loop-holds : tie.Need-loop-holds Inv-loop μ-loop
 loop-holds c = (search needs, each-none _)
-
-put-bag-entry-requires : tie.Need-put-bag-entry-requires Inv-loop μ-loop
-put-bag-entry-requires c κs = search needs
-
-add-e : tie.Need-add-e Inv-loop μ-loop
-add-e c = search needs
-
-loop-less : tie.Need-loop-less Inv-loop μ-loop
-loop-less c = search needs
 
 loop-again : tie.Need-loop-again Inv-loop μ-loop
 loop-again c = (search needs, search each-more depth 6)
@@ -47,11 +35,11 @@ put-boards-spec =
     (tie.spec
     Inv-loop
     μ-loop
-    bag-len-requires
+    (λ c κs. search needs)
     loop-holds
-    put-bag-entry-requires
-    add-e
-    loop-less
+    (λ c κs. search needs)
+    (λ c. search needs)
+    (λ c. search needs)
     loop-again
     same-length
     returns)

@@ -15,26 +15,8 @@ Inv-loop out₀ at s h k j d to₀ p₀ out to p = (p ≤ h .periods) × Wrote o
 abbrev μ-loop : tie.MeasureT-loop
 μ-loop out₀ at s h k j d to₀ p₀ out to p = h .periods - p
 
-add-j : tie.Need-add-j Inv-loop μ-loop
-add-j c = search needs
-
-database-requires : tie.Need-database-requires Inv-loop μ-loop
-database-requires c κs = search needs
-
 loop-holds : tie.Need-loop-holds Inv-loop μ-loop
 loop-holds c = (search needs, each-none _)
-
-row-in-requires : tie.Need-row-in-requires Inv-loop μ-loop
-row-in-requires c κs = search needs
-
-put-db-period-requires : tie.Need-put-db-period-requires Inv-loop μ-loop
-put-db-period-requires c κs = search needs
-
-add-p : tie.Need-add-p Inv-loop μ-loop
-add-p c = search needs
-
-loop-less : tie.Need-loop-less Inv-loop μ-loop
-loop-less c = search needs
 
 loop-again : tie.Need-loop-again Inv-loop μ-loop
 loop-again c = (search needs, search (each-more, period-shown) depth 6)
@@ -54,13 +36,13 @@ put-db-peer-spec =
     (tie.spec
     Inv-loop
     μ-loop
-    add-j
-    database-requires
+    (λ c. search needs)
+    (λ c κs. search needs)
     loop-holds
-    row-in-requires
-    put-db-period-requires
-    add-p
-    loop-less
+    (λ c κs. search needs)
+    (λ c κs. search needs)
+    (λ c. search needs)
+    (λ c. search needs)
     loop-again
     same-length
     returns)

@@ -16,24 +16,6 @@ abbrev μ-loop : tie.MeasureT-loop
 loop-holds : tie.Need-loop-holds Inv-loop μ-loop
 loop-holds c = (search needs, each-none _)
 
-cast-put-db-item : tie.Need-cast-put-db-item Inv-loop μ-loop
-cast-put-db-item c = search needs
-
-mul-put-db-item : tie.Need-mul-put-db-item Inv-loop μ-loop
-mul-put-db-item c = search needs
-
-array-copy-out-put-db-item : tie.Need-array-copy-out-put-db-item Inv-loop μ-loop
-array-copy-out-put-db-item c = search needs
-
-put-db-item-requires : tie.Need-put-db-item-requires Inv-loop μ-loop
-put-db-item-requires c κs = search needs
-
-add-x : tie.Need-add-x Inv-loop μ-loop
-add-x c = search needs
-
-loop-less : tie.Need-loop-less Inv-loop μ-loop
-loop-less c = search needs
-
 loop-again : tie.Need-loop-again Inv-loop μ-loop
 unfolding rowItem
 loop-again c = (search needs, search each-more depth 6)
@@ -54,12 +36,12 @@ put-db-period-spec =
     Inv-loop
     μ-loop
     loop-holds
-    cast-put-db-item
-    mul-put-db-item
-    array-copy-out-put-db-item
-    put-db-item-requires
-    add-x
-    loop-less
+    (λ c. search needs)
+    (λ c. search needs)
+    (λ c. search needs)
+    (λ c κs. search needs)
+    (λ c. search needs)
+    (λ c. search needs)
     loop-again
     same-length
     returns)

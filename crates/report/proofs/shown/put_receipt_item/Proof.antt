@@ -5,15 +5,6 @@ use borrow.Author.Needs.{needs}
 use Rattle.report.proofs.shown.put_receipt_item.Statement.{statement}
 use Rattle.report.proofs.shown.put_receipt_item.Tie as tie
 
-is-there-requires : tie.Need-is-there-requires
-is-there-requires c κs = search needs
-
-put-receipt-requires : tie.Need-put-receipt-requires
-put-receipt-requires c κs = search needs
-
-same-length : tie.Need-same-length
-same-length c = search needs
-
 returns : tie.Need-returns
 unfolding receiptItem
 returns c = search kept depth 6
@@ -24,4 +15,4 @@ returns-2 c = search left-out depth 6
 
 pub put-receipt-item-spec : {M : Type 1} → statement M
 put-receipt-item-spec =
-    tie.close (tie.spec is-there-requires put-receipt-requires same-length returns returns-2)
+    tie.close (tie.spec (λ c κs. search needs) (λ c κs. search needs) (λ c. search needs) returns returns-2)

@@ -17,15 +17,6 @@ abbrev μ-loop : tie.MeasureT-loop
 loop-holds : tie.Need-loop-holds Inv-loop μ-loop
 loop-holds c = (search needs, each-none _)
 
-put-receipt-item-requires : tie.Need-put-receipt-item-requires Inv-loop μ-loop
-put-receipt-item-requires c κs = search needs
-
-add-x : tie.Need-add-x Inv-loop μ-loop
-add-x c = search needs
-
-loop-less : tie.Need-loop-less Inv-loop μ-loop
-loop-less c = search needs
-
 loop-again : tie.Need-loop-again Inv-loop μ-loop
 loop-again c = (search needs, search each-more depth 6)
 
@@ -45,9 +36,9 @@ put-receipt-period-spec =
     Inv-loop
     μ-loop
     loop-holds
-    put-receipt-item-requires
-    add-x
-    loop-less
+    (λ c κs. search needs)
+    (λ c. search needs)
+    (λ c. search needs)
     loop-again
     same-length
     returns)

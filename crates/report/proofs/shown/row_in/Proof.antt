@@ -4,12 +4,6 @@ use borrow.Author.Needs.{needs}
 use Rattle.report.proofs.shown.row_in.Statement.{statement}
 use Rattle.report.proofs.shown.row_in.Tie as tie
 
-mul-result : tie.Need-mul-result
-mul-result c = search needs
-
-array-copy-out-result : tie.Need-array-copy-out-result
-array-copy-out-result c = search needs
-
 returns : tie.Need-returns
 returns c = search row-inside
 
@@ -17,4 +11,4 @@ returns-2 : tie.Need-returns-2
 returns-2 c = search row-outside
 
 pub row-in-spec : {M : Type 1} → statement M
-row-in-spec = tie.close (tie.spec mul-result array-copy-out-result returns returns-2)
+row-in-spec = tie.close (tie.spec (λ c. search needs) (λ c. search needs) returns returns-2)

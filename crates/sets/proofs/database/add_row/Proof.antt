@@ -20,29 +20,8 @@ abbrev μ-loop : tie.MeasureT-loop
 loop-holds : tie.Need-loop-holds Inv-loop μ-loop
 loop-holds c = (search needs, (refl, search row-none))
 
-cast-add-signers : tie.Need-cast-add-signers Inv-loop μ-loop
-cast-add-signers c = search needs
-
-mul-add-signers : tie.Need-mul-add-signers Inv-loop μ-loop
-mul-add-signers c = search needs
-
-array-copy-out-add-signers : tie.Need-array-copy-out-add-signers Inv-loop μ-loop
-array-copy-out-add-signers c = search needs
-
-add-signers-requires : tie.Need-add-signers-requires Inv-loop μ-loop
-add-signers-requires c κs = search needs
-
-add-i : tie.Need-add-i Inv-loop μ-loop
-add-i c = search needs
-
-loop-less : tie.Need-loop-less Inv-loop μ-loop
-loop-less c = search needs
-
 loop-again : tie.Need-loop-again Inv-loop μ-loop
 loop-again c = (search needs, (search needs, search row-more))
-
-same-length : tie.Need-same-length Inv-loop μ-loop
-same-length c = search needs
 
 returns : tie.Need-returns Inv-loop μ-loop
 returns c = search row-end
@@ -54,12 +33,12 @@ add-row-spec =
     Inv-loop
     μ-loop
     loop-holds
-    cast-add-signers
-    mul-add-signers
-    array-copy-out-add-signers
-    add-signers-requires
-    add-i
-    loop-less
+    (λ c. search needs)
+    (λ c. search needs)
+    (λ c. search needs)
+    (λ c κs. search needs)
+    (λ c. search needs)
+    (λ c. search needs)
     loop-again
-    same-length
+    (λ c. search needs)
     returns)

@@ -15,38 +15,20 @@ Inv-loop s h j p sets m b₀ i₀ b i = (i ≤ m) × (b ≡ pack i (onBoard h (c
 abbrev μ-loop : tie.MeasureT-loop
 μ-loop s h j p sets m b₀ i₀ b i = m - i
 
-row-requires : tie.Need-row-requires Inv-loop μ-loop
-row-requires c κs = search needs
-
 loop-holds : tie.Need-loop-holds Inv-loop μ-loop
 loop-holds c = (search needs, search board-none)
-
-cast-signers-reach : tie.Need-cast-signers-reach Inv-loop μ-loop
-cast-signers-reach c = search needs
-
-mul-signers-reach : tie.Need-mul-signers-reach Inv-loop μ-loop
-mul-signers-reach c = search needs
-
-array-copy-out-signers-reach : tie.Need-array-copy-out-signers-reach Inv-loop μ-loop
-array-copy-out-signers-reach c = search needs
-
-signers-reach-requires : tie.Need-signers-reach-requires Inv-loop μ-loop
-signers-reach-requires c κs = search needs
 
 with-item-requires : tie.Need-with-item-requires Inv-loop μ-loop
 with-item-requires c κs = (search board-lt, search needs)
 
-add-i : tie.Need-add-i Inv-loop μ-loop
-add-i c = search needs
-
-loop-less : tie.Need-loop-less Inv-loop μ-loop
-loop-less c = search needs
-
 loop-again : tie.Need-loop-again Inv-loop μ-loop
 loop-again c =
     let turn = c .before .before .before in
-    let l = turn .before in
-    (search needs, board-more _ _ _ _ _ _ _ _ _ (l .before .row .ensures) (search needs) (turn .loop-test .taken) (l .loop .inv .1) (c .before .signers-reach .ensures) (c .with-item .ensures))
+    let l = turn .before in (
+      search needs,
+      board-more _ _ _ _ _ _ _ _ _ (l .before .row .ensures) (search needs) (turn .loop-test .taken) (l .loop .inv .1)
+          (c .before .signers-reach .ensures) (c .with-item .ensures),
+    )
 
 returns : tie.Need-returns Inv-loop μ-loop
 returns c = search board-end
@@ -57,14 +39,14 @@ board-of-spec =
     (tie.spec
     Inv-loop
     μ-loop
-    row-requires
+    (λ c κs. search needs)
     loop-holds
-    cast-signers-reach
-    mul-signers-reach
-    array-copy-out-signers-reach
-    signers-reach-requires
+    (λ c. search needs)
+    (λ c. search needs)
+    (λ c. search needs)
+    (λ c κs. search needs)
     with-item-requires
-    add-i
-    loop-less
+    (λ c. search needs)
+    (λ c. search needs)
     loop-again
     returns)

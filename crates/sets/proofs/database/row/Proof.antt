@@ -21,24 +21,6 @@ abbrev μ-loop : tie.MeasureT-loop
 loop-holds : tie.Need-loop-holds Inv-loop μ-loop
 loop-holds c = (omega arith, filled-none _ items _ _ refl)
 
-cast-signers-of : tie.Need-cast-signers-of Inv-loop μ-loop
-cast-signers-of c = search needs
-
-signers-of-requires : tie.Need-signers-of-requires Inv-loop μ-loop
-signers-of-requires c κs = search needs
-
-mul-r : tie.Need-mul-r Inv-loop μ-loop
-mul-r c = search needs
-
-array-set-from-r : tie.Need-array-set-from-r Inv-loop μ-loop
-array-set-from-r c = search needs
-
-add-i : tie.Need-add-i Inv-loop μ-loop
-add-i c = search needs
-
-loop-less : tie.Need-loop-less Inv-loop μ-loop
-loop-less c = search needs
-
 loop-again : tie.Need-loop-again Inv-loop μ-loop
 loop-again c = (search needs, search filled-more)
 
@@ -53,11 +35,11 @@ row-spec =
     Inv-loop
     μ-loop
     loop-holds
-    cast-signers-of
-    signers-of-requires
-    mul-r
-    array-set-from-r
-    add-i
-    loop-less
+    (λ c. search needs)
+    (λ c κs. search needs)
+    (λ c. search needs)
+    (λ c. search needs)
+    (λ c. search needs)
+    (λ c. search needs)
     loop-again
     returns)

@@ -5,11 +5,8 @@ use borrow.Author.Needs.{needs}
 use Rattle.sets.proofs.whole.posted.Statement.{statement}
 use Rattle.sets.proofs.whole.posted.Tie as tie
 
-load-requires : tie.Need-load-requires
-load-requires c κs = search needs
-
 returns : tie.Need-returns
 returns c = c .load .ensures ∙ posted-inside _ (c .before .before .pre)
 
 pub posted-spec : {M : Type 1} → statement M
-posted-spec = tie.close (tie.spec load-requires returns)
+posted-spec = tie.close (tie.spec (λ c κs. search needs) returns)

@@ -6,20 +6,8 @@ use borrow.Author.Needs.{needs}
 use Rattle.sets.proofs.whole.sharers_of.Statement.{statement}
 use Rattle.sets.proofs.whole.sharers_of.Tie as tie
 
-is-cell-requires : tie.Need-is-cell-requires
-is-cell-requires c κs = search needs
-
 cell-of-requires : tie.Need-cell-of-requires
 cell-of-requires c κs = cell-within _ _ (sym (c .before .is-cell .ensures) ∙ c .if1 .taken)
-
-mul-word : tie.Need-mul-word
-mul-word c = search needs
-
-add-word : tie.Need-add-word
-add-word c = search needs
-
-word-requires : tie.Need-word-requires
-word-requires c κs = search needs
 
 returns : tie.Need-returns
 returns c = search sharers-in
@@ -30,4 +18,4 @@ returns-2 c = search sharers-out
 pub sharers-of-spec : {M : Type 1} → statement M
 sharers-of-spec =
     tie.close
-    (tie.spec is-cell-requires cell-of-requires mul-word add-word word-requires returns returns-2)
+    (tie.spec (λ c κs. search needs) cell-of-requires (λ c. search needs) (λ c. search needs) (λ c κs. search needs) returns returns-2)

@@ -6,20 +6,8 @@ use borrow.Author.Needs.{needs}
 use Rattle.sets.proofs.whole.signers_of.Statement.{statement}
 use Rattle.sets.proofs.whole.signers_of.Tie as tie
 
-is-spot-requires : tie.Need-is-spot-requires
-is-spot-requires c κs = search needs
-
 spot-of-requires : tie.Need-spot-of-requires
 spot-of-requires c κs = spot-within _ _ _ (sym (c .before .is-spot .ensures) ∙ c .if1 .taken)
-
-mul-word : tie.Need-mul-word
-mul-word c = search needs
-
-add-word : tie.Need-add-word
-add-word c = search needs
-
-word-requires : tie.Need-word-requires
-word-requires c κs = search needs
 
 returns : tie.Need-returns
 returns c = search signers-in
@@ -30,4 +18,4 @@ returns-2 c = search signers-out
 pub signers-of-spec : {M : Type 1} → statement M
 signers-of-spec =
     tie.close
-    (tie.spec is-spot-requires spot-of-requires mul-word add-word word-requires returns returns-2)
+    (tie.spec (λ c κs. search needs) spot-of-requires (λ c. search needs) (λ c. search needs) (λ c κs. search needs) returns returns-2)

@@ -8,22 +8,10 @@ use borrow.Author.Needs.{needs}
 use Rattle.state.proofs.facts.is_heard_by.Statement.{statement}
 use Rattle.state.proofs.facts.is_heard_by.Tie as tie
 
-is-heard-requires : tie.Need-is-heard-requires
-is-heard-requires c κs = search needs
-
-mul-has : tie.Need-mul-has
-mul-has c = search needs
-
 heard-by-requires : tie.Need-heard-by-requires
 heard-by-requires c κs = let t = c .before in
     let a = t .before .before .args in
     range-within (Heard (a .j) (a .e)) (sym (t .is-heard .ensures) ∙ c .if1 .taken)
-
-add-has : tie.Need-add-has
-add-has c = search needs
-
-has-requires : tie.Need-has-requires
-has-requires c κs = search needs
 
 returns : tie.Need-returns
 returns c = let t = c .before .before in there-yes _ _ (t .before .is-heard .ensures) _ (t .if1 .taken) (c .has .ensures) (omega arith)
@@ -34,4 +22,4 @@ returns-2 c = search there-no
 pub is-heard-by-spec : {M : Type 1} → statement M
 is-heard-by-spec =
     tie.close
-    (tie.spec is-heard-requires mul-has heard-by-requires add-has has-requires returns returns-2)
+    (tie.spec (λ c κs. search needs) (λ c. search needs) heard-by-requires (λ c. search needs) (λ c κs. search needs) returns returns-2)

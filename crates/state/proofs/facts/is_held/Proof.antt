@@ -7,20 +7,8 @@ use borrow.Author.Needs.{needs}
 use Rattle.state.proofs.facts.is_held.Statement.{statement}
 use Rattle.state.proofs.facts.is_held.Tie as tie
 
-is-spot-requires : tie.Need-is-spot-requires
-is-spot-requires c κs = search needs
-
-mul-has : tie.Need-mul-has
-mul-has c = search needs
-
 spot-of-requires : tie.Need-spot-of-requires
 spot-of-requires c κs = spot-within _ _ _ (sym (c .before .is-spot .ensures) ∙ c .if1 .taken)
-
-add-has : tie.Need-add-has
-add-has c = search needs
-
-has-requires : tie.Need-has-requires
-has-requires c κs = search needs
 
 returns : tie.Need-returns
 returns c = let t = c .before .before in there-yes _ _ (t .before .is-spot .ensures) _ (t .if1 .taken) (c .has .ensures) (omega arith)
@@ -31,4 +19,4 @@ returns-2 c = search there-no
 pub is-held-spec : {M : Type 1} → statement M
 is-held-spec =
     tie.close
-    (tie.spec is-spot-requires mul-has spot-of-requires add-has has-requires returns returns-2)
+    (tie.spec (λ c κs. search needs) (λ c. search needs) spot-of-requires (λ c. search needs) (λ c κs. search needs) returns returns-2)

@@ -5,21 +5,6 @@ use borrow.Author.Needs.{needs}
 use Rattle.state.proofs.facts.is_posted.Statement.{statement}
 use Rattle.state.proofs.facts.is_posted.Tie as tie
 
-is-item-requires : tie.Need-is-item-requires
-is-item-requires c κs = search needs
-
-mul-has : tie.Need-mul-has
-mul-has c = search needs
-
-wide-requires : tie.Need-wide-requires
-wide-requires c κs = search needs
-
-add-has : tie.Need-add-has
-add-has c = search needs
-
-has-requires : tie.Need-has-requires
-has-requires c κs = search needs
-
 returns : tie.Need-returns
 returns c = let t = c .before .before in there-yes _ _ (t .before .is-item .ensures) _ (t .if1 .taken) (c .has .ensures) (omega arith)
 
@@ -29,4 +14,5 @@ returns-2 c = search there-no
 pub is-posted-spec : {M : Type 1} → statement M
 is-posted-spec =
     tie.close
-    (tie.spec is-item-requires mul-has wide-requires add-has has-requires returns returns-2)
+    (tie.spec (λ c κs. search needs) (λ c. search needs) (λ c κs. search needs) (λ c. search needs)
+    (λ c κs. search needs) returns returns-2)

@@ -7,12 +7,6 @@ use borrow.Author.Needs.{needs}
 use Rattle.state.proofs.facts.is_signed.Statement.{statement}
 use Rattle.state.proofs.facts.is_signed.Tie as tie
 
-is-spot-requires : tie.Need-is-spot-requires
-is-spot-requires c κs = search needs
-
-mul-has : tie.Need-mul-has
-mul-has c = search needs
-
 cell-of-requires : tie.Need-cell-of-requires
 cell-of-requires c κs = let t = c .before in
     let a = t .before .before .args in
@@ -23,14 +17,9 @@ peer-bit-requires c κs = let t = c .before in
     let a = t .before .before .before .args in
     (omega (arith, c .cell-of .ensures), spot-within (a .k) (a .p) (a .i) (sym (t .before .is-spot .ensures) ∙ t .if1 .taken) .0)
 
-add-has : tie.Need-add-has
-add-has c = search needs
-
-has-requires : tie.Need-has-requires
-has-requires c κs = search needs
-
 returns : tie.Need-returns
-returns c = let t = c .before .before .before in there-yes _ _ (t .before .is-spot .ensures) _ (t .if1 .taken) (c .has .ensures) (omega arith)
+returns c =
+    let t = c .before .before .before in there-yes _ _ (t .before .is-spot .ensures) _ (t .if1 .taken) (c .has .ensures) (omega arith)
 
 returns-2 : tie.Need-returns-2
 returns-2 c = search there-no
@@ -39,11 +28,11 @@ pub is-signed-spec : {M : Type 1} → statement M
 is-signed-spec =
     tie.close
     (tie.spec
-    is-spot-requires
-    mul-has
+    (λ c κs. search needs)
+    (λ c. search needs)
     cell-of-requires
     peer-bit-requires
-    add-has
-    has-requires
+    (λ c. search needs)
+    (λ c κs. search needs)
     returns
     returns-2)

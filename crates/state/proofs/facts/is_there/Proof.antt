@@ -6,9 +6,6 @@ use borrow.Author.Needs.{needs}
 use Rattle.state.proofs.facts.is_there.Statement.{statement}
 use Rattle.state.proofs.facts.is_there.Tie as tie
 
-in-range-requires : tie.Need-in-range-requires
-in-range-requires c κs = search needs
-
 place-of-requires : tie.Need-place-of-requires
 place-of-requires c κs = range-within (c .before .before .before .args .f) (sym (c .before .in-range .ensures) ∙ c .if1 .taken)
 
@@ -23,4 +20,4 @@ returns-2 c = search there-no
 
 pub is-there-spec : {M : Type 1} → statement M
 is-there-spec =
-    tie.close (tie.spec in-range-requires place-of-requires has-requires returns returns-2)
+    tie.close (tie.spec (λ c κs. search needs) place-of-requires has-requires returns returns-2)

@@ -6,19 +6,13 @@ use borrow.Author.Needs.{needs}
 use Rattle.state.proofs.numbers.number_of.Statement.{statement}
 use Rattle.state.proofs.numbers.number_of.Tie as tie
 
-is-peer-requires : tie.Need-is-peer-requires
-is-peer-requires c κs = search needs
-
 value-of-requires : tie.Need-value-of-requires
 value-of-requires c κs =
     let given = c .before .before .before .pre in
     (given .0, rw (given .1) (peer-within _ (sym (c .before .is-peer .ensures) ∙ c .if1 .taken)))
 
-returns : tie.Need-returns
-returns c = search needs
-
 returns-2 : tie.Need-returns-2
 returns-2 c = let given = c .before .before .before .pre in no-number _ _ (c .before .is-peer .ensures ∙ rw (given .1)) (c .if1 .left)
 
 pub number-of-spec : {M : Type 1} → statement M
-number-of-spec = tie.close (tie.spec is-peer-requires value-of-requires returns returns-2)
+number-of-spec = tie.close (tie.spec (λ c κs. search needs) value-of-requires (λ c. search needs) returns-2)

@@ -5,38 +5,11 @@ use Rattle.state.proofs.Arms.{room-found, place-found}
 use Rattle.state.proofs.place.place_of.Statement.{statement}
 use Rattle.state.proofs.place.place_of.Tie as tie
 
-enum-known-f : tie.Need-enum-known-f
-enum-known-f c = search needs
-
-mul-result : tie.Need-mul-result
-mul-result c = search needs
-
-wide-requires : tie.Need-wide-requires
-wide-requires c κs = search needs
-
-add-result : tie.Need-add-result
-add-result c = search needs
-
-enum-known-f-2 : tie.Need-enum-known-f-2
-enum-known-f-2 c = search needs
-
-mul-result-2 : tie.Need-mul-result-2
-mul-result-2 c = search needs
-
 cell-of-requires : tie.Need-cell-of-requires
 cell-of-requires c κs = room-found _ _ (c .before .f2 .given .1) (search needs) .1
 
 peer-bit-requires : tie.Need-peer-bit-requires
 peer-bit-requires c κs = (omega arith, room-found _ _ (c .before .before .f2 .given .1) (search needs) .0)
-
-add-result-2 : tie.Need-add-result-2
-add-result-2 c = search needs
-
-enum-known-f-3 : tie.Need-enum-known-f-3
-enum-known-f-3 c = search needs
-
-mul-result-3 : tie.Need-mul-result-3
-mul-result-3 c = search needs
 
 cell-of-requires-2 : tie.Need-cell-of-requires-2
 cell-of-requires-2 c κs = room-found _ _ (c .before .f3 .given .1) (search needs) .1
@@ -44,38 +17,11 @@ cell-of-requires-2 c κs = room-found _ _ (c .before .f3 .given .1) (search need
 peer-bit-requires-2 : tie.Need-peer-bit-requires-2
 peer-bit-requires-2 c κs = (omega arith, room-found _ _ (c .before .before .f3 .given .1) (search needs) .0)
 
-add-result-3 : tie.Need-add-result-3
-add-result-3 c = search needs
-
-enum-known-f-4 : tie.Need-enum-known-f-4
-enum-known-f-4 c = search needs
-
-mul-result-4 : tie.Need-mul-result-4
-mul-result-4 c = search needs
-
 cell-of-requires-3 : tie.Need-cell-of-requires-3
 cell-of-requires-3 c κs = room-found _ _ (c .before .f4 .given .1) (search needs)
 
-add-result-4 : tie.Need-add-result-4
-add-result-4 c = search needs
-
-enum-known-f-5 : tie.Need-enum-known-f-5
-enum-known-f-5 c = search needs
-
-mul-result-5 : tie.Need-mul-result-5
-mul-result-5 c = search needs
-
 spot-of-requires : tie.Need-spot-of-requires
 spot-of-requires c κs = room-found _ _ (c .before .f5 .given .1) (search needs)
-
-add-result-5 : tie.Need-add-result-5
-add-result-5 c = search needs
-
-enum-known-f-6 : tie.Need-enum-known-f-6
-enum-known-f-6 c = search needs
-
-mul-result-6 : tie.Need-mul-result-6
-mul-result-6 c = search needs
 
 spot-of-requires-2 : tie.Need-spot-of-requires-2
 spot-of-requires-2 c κs = let w = room-found _ _ (c .before .f6 .given .1) (search needs) in (w .0, w .1 .1)
@@ -83,20 +29,8 @@ spot-of-requires-2 c κs = let w = room-found _ _ (c .before .f6 .given .1) (sea
 peer-bit-requires-3 : tie.Need-peer-bit-requires-3
 peer-bit-requires-3 c κs = (omega arith, room-found _ _ (c .before .before .f6 .given .1) (search needs) .1 .0)
 
-add-result-6 : tie.Need-add-result-6
-add-result-6 c = search needs
-
-enum-known-f-7 : tie.Need-enum-known-f-7
-enum-known-f-7 c = search needs
-
-mul-result-7 : tie.Need-mul-result-7
-mul-result-7 c = search needs
-
 heard-by-requires : tie.Need-heard-by-requires
 heard-by-requires c κs = room-found _ _ (c .before .f7 .given .1) (search needs)
-
-add-result-7 : tie.Need-add-result-7
-add-result-7 c = search needs
 
 returns : tie.Need-returns
 returns c = place-found _ _ _ (c .before .before .f .given .1) (omega arith)
@@ -123,37 +57,37 @@ pub place-of-spec : {M : Type 1} → statement M
 place-of-spec =
     tie.close
     (tie.spec
-    enum-known-f
-    mul-result
-    wide-requires
-    add-result
-    enum-known-f-2
-    mul-result-2
+    (λ c. search needs)
+    (λ c. search needs)
+    (λ c κs. search needs)
+    (λ c. search needs)
+    (λ c. search needs)
+    (λ c. search needs)
     cell-of-requires
     peer-bit-requires
-    add-result-2
-    enum-known-f-3
-    mul-result-3
+    (λ c. search needs)
+    (λ c. search needs)
+    (λ c. search needs)
     cell-of-requires-2
     peer-bit-requires-2
-    add-result-3
-    enum-known-f-4
-    mul-result-4
+    (λ c. search needs)
+    (λ c. search needs)
+    (λ c. search needs)
     cell-of-requires-3
-    add-result-4
-    enum-known-f-5
-    mul-result-5
+    (λ c. search needs)
+    (λ c. search needs)
+    (λ c. search needs)
     spot-of-requires
-    add-result-5
-    enum-known-f-6
-    mul-result-6
+    (λ c. search needs)
+    (λ c. search needs)
+    (λ c. search needs)
     spot-of-requires-2
     peer-bit-requires-3
-    add-result-6
-    enum-known-f-7
-    mul-result-7
+    (λ c. search needs)
+    (λ c. search needs)
+    (λ c. search needs)
     heard-by-requires
-    add-result-7
+    (λ c. search needs)
     returns
     returns-2
     returns-3

@@ -6,12 +6,6 @@ use borrow.Author.Needs.{needs}
 use Rattle.state.proofs.range.is_cell.Statement.{statement}
 use Rattle.state.proofs.range.is_cell.Tie as tie
 
-wide-requires : tie.Need-wide-requires
-wide-requires c κs = search needs
-
-is-item-requires : tie.Need-is-item-requires
-is-item-requires c κs = search needs
-
 returns : tie.Need-returns
 returns c = rw (lt-ltb (c .before .before .before .args .p) periods (omega arith)) (c .is-item .ensures)
 
@@ -22,7 +16,7 @@ pub is-cell-spec : {M : Type 1} → statement M
 is-cell-spec =
     tie.close
     (tie.spec
-    wide-requires
-    is-item-requires
+    (λ c κs. search needs)
+    (λ c κs. search needs)
     returns
     returns-2)

@@ -7,12 +7,6 @@ use borrow.Author.Needs.{needs}
 use Rattle.state.proofs.range.is_heard.Statement.{statement}
 use Rattle.state.proofs.range.is_heard.Tie as tie
 
-is-peer-requires : tie.Need-is-peer-requires
-is-peer-requires c κs = search needs
-
-wide-requires : tie.Need-wide-requires
-wide-requires c κs = search needs
-
 returns : tie.Need-returns
 returns c = rw (← c .before .before .is-peer .ensures, c .before .if1 .taken) (ap (λ (x : ℕ). ltb x entries) (c .wide .ensures .0))
 
@@ -23,7 +17,7 @@ pub is-heard-spec : {M : Type 1} → statement M
 is-heard-spec =
     tie.close
     (tie.spec
-    is-peer-requires
-    wide-requires
+    (λ c κs. search needs)
+    (λ c κs. search needs)
     returns
     returns-2)

@@ -7,9 +7,6 @@ use borrow.Author.Needs.{needs}
 use Rattle.state.proofs.range.is_item.Statement.{statement}
 use Rattle.state.proofs.range.is_item.Tie as tie
 
-wide-requires : tie.Need-wide-requires
-wide-requires c κs = search needs
-
 returns : tie.Need-returns
 returns c = ap (λ (x : ℕ). ltb x items) (c .wide .ensures .0)
 
@@ -17,5 +14,5 @@ pub is-item-spec : {M : Type 1} → statement M
 is-item-spec =
     tie.close
     (tie.spec
-    wide-requires
+    (λ c κs. search needs)
     returns)

@@ -3,12 +3,6 @@ use borrow.Author.Needs.{needs}
 use Rattle.state.proofs.range.is_known.Statement.{statement}
 use Rattle.state.proofs.range.is_known.Tie as tie
 
-is-peer-requires : tie.Need-is-peer-requires
-is-peer-requires c κs = search needs
-
-is-spot-requires : tie.Need-is-spot-requires
-is-spot-requires c κs = search needs
-
 returns : tie.Need-returns
 returns c = rw (← c .before .before .is-peer .ensures, c .before .if1 .taken) (c .is-spot .ensures)
 
@@ -19,7 +13,7 @@ pub is-known-spec : {M : Type 1} → statement M
 is-known-spec =
     tie.close
     (tie.spec
-    is-peer-requires
-    is-spot-requires
+    (λ c κs. search needs)
+    (λ c κs. search needs)
     returns
     returns-2)

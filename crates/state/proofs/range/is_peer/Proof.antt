@@ -8,9 +8,6 @@ use Rattle.state.proofs.range.is_peer.Tie as tie
 returns : tie.Need-returns
 returns c = rw (lt-leb 1 (c .before .args .k) (c .if1 .taken))
 
-wide-requires : tie.Need-wide-requires
-wide-requires c κs = search needs
-
 returns-2 : tie.Need-returns-2
 returns-2 c = rw (le-leb 1 (c .before .before .args .k) (omega arith), c .wide .ensures .0)
 
@@ -19,5 +16,5 @@ is-peer-spec =
     tie.close
     (tie.spec
     returns
-    wide-requires
+    (λ c κs. search needs)
     returns-2)

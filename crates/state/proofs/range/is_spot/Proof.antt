@@ -3,12 +3,6 @@ use borrow.Author.Needs.{needs}
 use Rattle.state.proofs.range.is_spot.Statement.{statement}
 use Rattle.state.proofs.range.is_spot.Tie as tie
 
-is-peer-requires : tie.Need-is-peer-requires
-is-peer-requires c κs = search needs
-
-is-cell-requires : tie.Need-is-cell-requires
-is-cell-requires c κs = search needs
-
 returns : tie.Need-returns
 returns c = rw (← c .before .before .is-peer .ensures, c .before .if1 .taken) (c .is-cell .ensures)
 
@@ -19,7 +13,7 @@ pub is-spot-spec : {M : Type 1} → statement M
 is-spot-spec =
     tie.close
     (tie.spec
-    is-peer-requires
-    is-cell-requires
+    (λ c κs. search needs)
+    (λ c κs. search needs)
     returns
     returns-2)

@@ -10,9 +10,6 @@ use Rattle.steps.proofs.ballots.step_sign.Tie as tie
 judge-sign-requires : tie.Need-judge-sign-requires
 judge-sign-requires c κs = search asked
 
-same-length : tie.Need-same-length
-same-length c = search needs
-
 returns : tie.Need-returns
 returns c = search refused
 
@@ -25,9 +22,6 @@ add-fact-requires c κs = search (asked, may-sign) depth 6
 add-fact-requires-2 : tie.Need-add-fact-requires-2
 add-fact-requires-2 c κs = search (asked, may-know-own) depth 6
 
-same-length-2 : tie.Need-same-length-2
-same-length-2 c = search needs
-
 returns-2 : tie.Need-returns-2
 returns-2 c = search (taken, did-sign) depth 6
 
@@ -36,10 +30,10 @@ step-sign-spec =
     tie.close
     (tie.spec
     judge-sign-requires
-    same-length
+    (λ c. search needs)
     returns
     current-of-requires
     add-fact-requires
     add-fact-requires-2
-    same-length-2
+    (λ c. search needs)
     returns-2)

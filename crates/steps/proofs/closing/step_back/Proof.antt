@@ -20,9 +20,6 @@ judge-back-requires c κs =
     let own = c .before .board-by .ensures in
     (ready, period, of-next _ _ _ ready _ _ _ period own)
 
-same-length : tie.Need-same-length
-same-length c = search needs
-
 returns : tie.Need-returns
 returns c = search refused
 
@@ -32,8 +29,11 @@ enter-requires c κs =
     let making = judging .before .before in
     let reading = making .before .before in
     let ready = reading .before .before .before .pre in
-    let period = reading .to-back-of .ensures in
-    (search asked, room-for-backing _ _ _ ready _ _ _ (judging .judge-back .ensures) (search needs) period (of-next _ _ _ ready _ _ _ period (making .board-by .ensures)))
+    let period = reading .to-back-of .ensures in (
+      search asked,
+      room-for-backing _ _ _ ready _ _ _ (judging .judge-back .ensures) (search needs) period
+          (of-next _ _ _ ready _ _ _ period (making .board-by .ensures)),
+    )
 
 raise-to-back-requires : tie.Need-raise-to-back-requires
 raise-to-back-requires c κs =
@@ -44,9 +44,6 @@ raise-to-back-requires c κs =
     let entered = entering .enter .ensures in
     (still-canon _ _ entered, may-back _ _ _ ready _ (judging .judge-back .ensures) (search needs), back-fits _ _ ready _ _ _ entered)
 
-same-length-2 : tie.Need-same-length-2
-same-length-2 c = search needs
-
 returns-2 : tie.Need-returns-2
 returns-2 c =
     let raising = c .before .before in
@@ -54,7 +51,8 @@ returns-2 c =
     let judging = entering .before .before .before in
     let making = judging .before .before in
     let reading = making .before .before in
-    let did = did-back _ _ _ _ _ _ _ (reading .to-back-of .ensures) (making .board-by .ensures) (entering .enter .ensures) (raising .raise-to-back .ensures) in
+    let did = did-back _ _ _ _ _ _ _ (reading .to-back-of .ensures) (making .board-by .ensures) (entering .enter .ensures)
+    (raising .raise-to-back .ensures) in
     taken _ _ _ _ _ (judging .judge-back .ensures) (search needs) did
 
 pub step-back-spec : {M : Type 1} → statement M
@@ -64,9 +62,9 @@ step-back-spec =
     to-back-of-requires
     board-by-requires
     judge-back-requires
-    same-length
+    (λ c. search needs)
     returns
     enter-requires
     raise-to-back-requires
-    same-length-2
+    (λ c. search needs)
     returns-2)

@@ -10,17 +10,11 @@ use Rattle.steps.proofs.closing.step_close.Tie as tie
 judge-close-requires : tie.Need-judge-close-requires
 judge-close-requires c κs = search asked
 
-same-length : tie.Need-same-length
-same-length c = search needs
-
 returns : tie.Need-returns
 returns c = search refused
 
 raise-current-requires : tie.Need-raise-current-requires
 raise-current-requires c κs = search (asked, may-close, close-fits) depth 6
-
-same-length-2 : tie.Need-same-length-2
-same-length-2 c = search needs
 
 returns-2 : tie.Need-returns-2
 returns-2 c = search (taken, did-close) depth 6
@@ -30,8 +24,8 @@ step-close-spec =
     tie.close
     (tie.spec
     judge-close-requires
-    same-length
+    (λ c. search needs)
     returns
     raise-current-requires
-    same-length-2
+    (λ c. search needs)
     returns-2)

@@ -10,17 +10,11 @@ use Rattle.steps.proofs.closing.step_fetch.Tie as tie
 judge-fetch-requires : tie.Need-judge-fetch-requires
 judge-fetch-requires c κs = search asked
 
-same-length : tie.Need-same-length
-same-length c = search needs
-
 returns : tie.Need-returns
 returns c = search refused
 
 fetch-requires : tie.Need-fetch-requires
 fetch-requires c κs = search (asked, may-fetch) depth 6
-
-same-length-2 : tie.Need-same-length-2
-same-length-2 c = search needs
 
 returns-2 : tie.Need-returns-2
 returns-2 c = search (taken, did-fetch) depth 6
@@ -30,8 +24,8 @@ step-fetch-spec =
     tie.close
     (tie.spec
     judge-fetch-requires
-    same-length
+    (λ c. search needs)
     returns
     fetch-requires
-    same-length-2
+    (λ c. search needs)
     returns-2)

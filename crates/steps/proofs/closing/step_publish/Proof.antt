@@ -10,9 +10,6 @@ use Rattle.steps.proofs.closing.step_publish.Tie as tie
 judge-publish-requires : tie.Need-judge-publish-requires
 judge-publish-requires c κs = search asked
 
-same-length : tie.Need-same-length
-same-length c = search needs
-
 returns : tie.Need-returns
 returns c = search refused
 
@@ -22,9 +19,6 @@ board-named-requires c κs = search (asked, still-canon) depth 6
 enter-requires : tie.Need-enter-requires
 enter-requires c κs = search (asked, room-for-board) depth 6
 
-same-length-2 : tie.Need-same-length-2
-same-length-2 c = search needs
-
 returns-2 : tie.Need-returns-2
 returns-2 c = search (taken, did-publish) depth 6
 
@@ -33,9 +27,9 @@ step-publish-spec =
     tie.close
     (tie.spec
     judge-publish-requires
-    same-length
+    (λ c. search needs)
     returns
     board-named-requires
     enter-requires
-    same-length-2
+    (λ c. search needs)
     returns-2)

@@ -13,9 +13,6 @@ board-by-requires c κs = search asked
 judge-send-hash-requires : tie.Need-judge-send-hash-requires
 judge-send-hash-requires c κs = search asked
 
-same-length : tie.Need-same-length
-same-length c = search needs
-
 returns : tie.Need-returns
 returns c = search refused
 
@@ -26,9 +23,6 @@ enter-requires c κs =
     let ready = making .before .before .before .pre in
     (search asked, room-for-hash _ _ _ ready _ _ _ (judging .judge-send-hash .ensures) (search needs) (making .board-by .ensures))
 
-same-length-2 : tie.Need-same-length-2
-same-length-2 c = search needs
-
 returns-2 : tie.Need-returns-2
 returns-2 c = search (taken, did-send-hash) depth 6
 
@@ -38,8 +32,8 @@ step-send-hash-spec =
     (tie.spec
     board-by-requires
     judge-send-hash-requires
-    same-length
+    (λ c. search needs)
     returns
     enter-requires
-    same-length-2
+    (λ c. search needs)
     returns-2)

@@ -10,17 +10,11 @@ use Rattle.steps.proofs.outside.step_false_backing.Tie as tie
 judge-false-backing-requires : tie.Need-judge-false-backing-requires
 judge-false-backing-requires c κs = search asked
 
-same-length : tie.Need-same-length
-same-length c = search needs
-
 returns : tie.Need-returns
 returns c = search refused
 
 enter-requires : tie.Need-enter-requires
 enter-requires c κs = search (asked, room-for-false-backing) depth 6
-
-same-length-2 : tie.Need-same-length-2
-same-length-2 c = search needs
 
 returns-2 : tie.Need-returns-2
 returns-2 c = search (taken, did-false-backing) depth 6
@@ -30,8 +24,8 @@ step-false-backing-spec =
     tie.close
     (tie.spec
     judge-false-backing-requires
-    same-length
+    (λ c. search needs)
     returns
     enter-requires
-    same-length-2
+    (λ c. search needs)
     returns-2)

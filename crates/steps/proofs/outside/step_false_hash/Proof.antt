@@ -10,17 +10,11 @@ use Rattle.steps.proofs.outside.step_false_hash.Tie as tie
 judge-false-hash-requires : tie.Need-judge-false-hash-requires
 judge-false-hash-requires c κs = search asked
 
-same-length : tie.Need-same-length
-same-length c = search needs
-
 returns : tie.Need-returns
 returns c = search refused
 
 enter-requires : tie.Need-enter-requires
 enter-requires c κs = search (asked, room-for-false-hash) depth 6
-
-same-length-2 : tie.Need-same-length-2
-same-length-2 c = search needs
 
 returns-2 : tie.Need-returns-2
 returns-2 c = search (taken, did-false-hash) depth 6
@@ -30,8 +24,8 @@ step-false-hash-spec =
     tie.close
     (tie.spec
     judge-false-hash-requires
-    same-length
+    (λ c. search needs)
     returns
     enter-requires
-    same-length-2
+    (λ c. search needs)
     returns-2)

@@ -10,17 +10,11 @@ use Rattle.steps.proofs.outside.step_up.Tie as tie
 judge-up-requires : tie.Need-judge-up-requires
 judge-up-requires c κs = search asked
 
-same-length : tie.Need-same-length
-same-length c = search needs
-
 returns : tie.Need-returns
 returns c = search refused
 
 set-value-requires : tie.Need-set-value-requires
 set-value-requires c κs = search (asked, may-up) depth 6
-
-same-length-2 : tie.Need-same-length-2
-same-length-2 c = search needs
 
 returns-2 : tie.Need-returns-2
 returns-2 c = search (taken, did-up) depth 6
@@ -30,8 +24,8 @@ step-up-spec =
     tie.close
     (tie.spec
     judge-up-requires
-    same-length
+    (λ c. search needs)
     returns
     set-value-requires
-    same-length-2
+    (λ c. search needs)
     returns-2)

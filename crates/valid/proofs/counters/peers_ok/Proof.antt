@@ -19,38 +19,8 @@ abbrev μ-loop : tie.MeasureT-loop
 loop-holds : tie.Need-loop-holds Inv-loop μ-loop
 loop-holds c = search by-each-peer
 
-add-numbers-ok : tie.Need-add-numbers-ok Inv-loop μ-loop
-add-numbers-ok c = search needs
-
-add-numbers-ok-2 : tie.Need-add-numbers-ok-2 Inv-loop μ-loop
-add-numbers-ok-2 c = search needs
-
-shared-slice-read-numbers-ok : tie.Need-shared-slice-read-numbers-ok Inv-loop μ-loop
-shared-slice-read-numbers-ok c = search needs
-
-add-numbers-ok-3 : tie.Need-add-numbers-ok-3 Inv-loop μ-loop
-add-numbers-ok-3 c = search needs
-
-shared-slice-read-numbers-ok-2 : tie.Need-shared-slice-read-numbers-ok-2 Inv-loop μ-loop
-shared-slice-read-numbers-ok-2 c = search needs
-
-add-numbers-ok-4 : tie.Need-add-numbers-ok-4 Inv-loop μ-loop
-add-numbers-ok-4 c = search needs
-
-shared-slice-read-numbers-ok-3 : tie.Need-shared-slice-read-numbers-ok-3 Inv-loop μ-loop
-shared-slice-read-numbers-ok-3 c = search needs
-
-numbers-ok-requires : tie.Need-numbers-ok-requires Inv-loop μ-loop
-numbers-ok-requires c κs = search needs
-
 returns : tie.Need-returns Inv-loop μ-loop
 returns c = search by-each-peer depth 12
-
-add-i : tie.Need-add-i Inv-loop μ-loop
-add-i c = search needs
-
-loop-less : tie.Need-loop-less Inv-loop μ-loop
-loop-less c = search needs
 
 loop-again : tie.Need-loop-again Inv-loop μ-loop
 loop-again c = search by-each-peer depth 12
@@ -65,16 +35,16 @@ peers-ok-spec =
     Inv-loop
     μ-loop
     loop-holds
-    add-numbers-ok
-    add-numbers-ok-2
-    shared-slice-read-numbers-ok
-    add-numbers-ok-3
-    shared-slice-read-numbers-ok-2
-    add-numbers-ok-4
-    shared-slice-read-numbers-ok-3
-    numbers-ok-requires
+    (λ c. search needs)
+    (λ c. search needs)
+    (λ c. search needs)
+    (λ c. search needs)
+    (λ c. search needs)
+    (λ c. search needs)
+    (λ c. search needs)
+    (λ c κs. search needs)
     returns
-    add-i
-    loop-less
+    (λ c. search needs)
+    (λ c. search needs)
     loop-again
     returns-2)

@@ -15,27 +15,6 @@ abbrev μ-loop : tie.MeasureT-loop
 loop-holds : tie.Need-loop-holds Inv-loop μ-loop
 loop-holds c = (search needs, search hashes-none)
 
-slice-aggregate-put-if : tie.Need-slice-aggregate-put-if Inv-loop μ-loop
-slice-aggregate-put-if c = search needs
-
-mul-put-if : tie.Need-mul-put-if Inv-loop μ-loop
-mul-put-if c = search needs
-
-add-put-if : tie.Need-add-put-if Inv-loop μ-loop
-add-put-if c = search needs
-
-shared-slice-read-put-if : tie.Need-shared-slice-read-put-if Inv-loop μ-loop
-shared-slice-read-put-if c = search needs
-
-put-if-requires : tie.Need-put-if-requires Inv-loop μ-loop
-put-if-requires c κs = search needs
-
-add-e : tie.Need-add-e Inv-loop μ-loop
-add-e c = search needs
-
-loop-less : tie.Need-loop-less Inv-loop μ-loop
-loop-less c = search needs
-
 loop-again : tie.Need-loop-again Inv-loop μ-loop
 loop-again c =
     let l = c .before .before .before .before .before .loop in
@@ -51,12 +30,12 @@ hashes-spec =
     Inv-loop
     μ-loop
     loop-holds
-    slice-aggregate-put-if
-    mul-put-if
-    add-put-if
-    shared-slice-read-put-if
-    put-if-requires
-    add-e
-    loop-less
+    (λ c. search needs)
+    (λ c. search needs)
+    (λ c. search needs)
+    (λ c. search needs)
+    (λ c κs. search needs)
+    (λ c. search needs)
+    (λ c. search needs)
     loop-again
     returns)

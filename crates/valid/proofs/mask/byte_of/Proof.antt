@@ -6,18 +6,6 @@ use Rattle.valid.proofs.Masks.{row-byte, past-rows}
 use Rattle.valid.proofs.mask.byte_of.Statement.{statement}
 use Rattle.valid.proofs.mask.byte_of.Tie as tie
 
-div-if1 : tie.Need-div-if1
-div-if1 c = search needs
-
-wide-requires : tie.Need-wide-requires
-wide-requires c κs = search needs
-
-rem-first-byte : tie.Need-rem-first-byte
-rem-first-byte c = search needs
-
-first-byte-requires : tie.Need-first-byte-requires
-first-byte-requires c κs = search needs
-
 returns : tie.Need-returns
 returns c = c .first-byte .ensures ∙ row-byte _ _ _ _ (c .before .before .before .pre) (omega arith)
 
@@ -26,4 +14,4 @@ returns-2 c = past-rows _ _ _ _ (c .before .before .pre) (omega arith)
 
 pub byte-of-spec : {M : Type 1} → statement M
 byte-of-spec =
-    tie.close (tie.spec div-if1 wide-requires rem-first-byte first-byte-requires returns returns-2)
+    tie.close (tie.spec (λ c. search needs) (λ c κs. search needs) (λ c. search needs) (λ c κs. search needs) returns returns-2)

@@ -18,23 +18,8 @@ abbrev μ-loop : tie.MeasureT-loop
 loop-holds : tie.Need-loop-holds Inv-loop μ-loop
 loop-holds c = (search needs, mask-none _ _)
 
-byte-of-requires : tie.Need-byte-of-requires Inv-loop μ-loop
-byte-of-requires c κs = search needs
-
-slice-write-m : tie.Need-slice-write-m Inv-loop μ-loop
-slice-write-m c = search needs
-
-add-b : tie.Need-add-b Inv-loop μ-loop
-add-b c = search needs
-
-loop-less : tie.Need-loop-less Inv-loop μ-loop
-loop-less c = search needs
-
 loop-again : tie.Need-loop-again Inv-loop μ-loop
 loop-again c = (search needs, mask-more _ _ _ _ _ (c .before .before .loop .inv .1) (c .byte-of .ensures) (omega arith))
-
-same-length : tie.Need-same-length Inv-loop μ-loop
-same-length c = search needs
 
 returns : tie.Need-returns Inv-loop μ-loop
 returns c = mask-all _ _ _ _ (c .before .loop .inv .1) (omega arith)
@@ -46,10 +31,10 @@ fill-spec =
     Inv-loop
     μ-loop
     loop-holds
-    byte-of-requires
-    slice-write-m
-    add-b
-    loop-less
+    (λ c κs. search needs)
+    (λ c. search needs)
+    (λ c. search needs)
+    (λ c. search needs)
     loop-again
-    same-length
+    (λ c. search needs)
     returns)

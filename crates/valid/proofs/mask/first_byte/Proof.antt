@@ -8,20 +8,11 @@ use Rattle.valid.proofs.Masks.{first-full, first-past, first-last}
 use Rattle.valid.proofs.mask.first_byte.Statement.{statement}
 use Rattle.valid.proofs.mask.first_byte.Tie as tie
 
-wide-requires : tie.Need-wide-requires
-wide-requires c κs = search needs
-
 returns : tie.Need-returns
 returns c = first-full _ _ (omega arith)
 
-wide-requires-2 : tie.Need-wide-requires-2
-wide-requires-2 c κs = search needs
-
 returns-2 : tie.Need-returns-2
 returns-2 c = first-past _ _ (omega arith)
-
-shl-result : tie.Need-shl-result
-shl-result c = search needs
 
 sub-result : tie.Need-sub-result
 sub-result c =
@@ -36,4 +27,4 @@ returns-3 c =
 pub first-byte-spec : {M : Type 1} → statement M
 first-byte-spec =
     tie.close
-    (tie.spec wide-requires returns wide-requires-2 returns-2 shl-result sub-result returns-3)
+    (tie.spec (λ c κs. search needs) returns (λ c κs. search needs) returns-2 (λ c. search needs) sub-result returns-3)

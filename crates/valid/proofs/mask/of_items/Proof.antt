@@ -7,14 +7,8 @@ use Rattle.valid.proofs.Masks.{mask-row}
 use Rattle.valid.proofs.mask.of_items.Statement.{statement}
 use Rattle.valid.proofs.mask.of_items.Tie as tie
 
-slice-aggregate-fill : tie.Need-slice-aggregate-fill
-slice-aggregate-fill c = search needs
-
-fill-requires : tie.Need-fill-requires
-fill-requires c κs = search needs
-
 returns : tie.Need-returns
 returns c = c .before .fill .ensures ∙ mask-row itemBytes _ (omega arith)
 
 pub of-items-spec : {M : Type 1} → statement M
-of-items-spec = tie.close (tie.spec slice-aggregate-fill fill-requires returns)
+of-items-spec = tie.close (tie.spec (λ c. search needs) (λ c κs. search needs) returns)

@@ -33,12 +33,6 @@ row-requires c κs = omega (arith, row-fits (length (c .before .before .before .
 returns : tie.Need-returns Inv-loop μ-loop
 returns c = search by-each-row depth 12
 
-add-i : tie.Need-add-i Inv-loop μ-loop
-add-i c = search needs
-
-loop-less : tie.Need-loop-less Inv-loop μ-loop
-loop-less c = search needs
-
 loop-again : tie.Need-loop-again Inv-loop μ-loop
 loop-again c = search by-each-row depth 12
 
@@ -56,7 +50,7 @@ each-row-spec =
     add-row
     row-requires
     returns
-    add-i
-    loop-less
+    (λ c. search needs)
+    (λ c. search needs)
     loop-again
     returns-2)

@@ -15,16 +15,14 @@ use Rattle.valid.proofs.rows.each_table.Statement.{statement}
 use Rattle.valid.proofs.rows.each_table.Tie as tie
 
 abbrev Inv-loop : tie.InvT-loop
-Inv-loop s o n used mask j₀ j = (j ≤ peers) × (every j (rowIn s o n (periods * length mask) (inRows used (length mask) (bitAt mask))) ≡ true)
+Inv-loop s o n used mask j₀ j =
+    (j ≤ peers) × (every j (rowIn s o n (periods * length mask) (inRows used (length mask) (bitAt mask))) ≡ true)
 
 abbrev μ-loop : tie.MeasureT-loop
 μ-loop s o n used mask j₀ j = peers - j
 
 loop-holds : tie.Need-loop-holds Inv-loop μ-loop
 loop-holds c = search by-each-row
-
-mul-table : tie.Need-mul-table Inv-loop μ-loop
-mul-table c = search needs
 
 mul-table-2 : tie.Need-mul-table-2 Inv-loop μ-loop
 mul-table-2 c = omega (arith, row-fits (periods * length (c .before .before .before .before .args .mask .now)) _ _ (c .loop-test .taken))
@@ -33,16 +31,17 @@ add-table : tie.Need-add-table Inv-loop μ-loop
 add-table c = omega (arith, row-fits (periods * length (c .before .before .before .before .args .mask .now)) _ _ (c .loop-test .taken))
 
 table-requires : tie.Need-table-requires Inv-loop μ-loop
-table-requires c κs = (search needs, omega (arith, row-fits (periods * length (c .before .before .before .before .args .mask .now)) _ _ (c .loop-test .taken)))
+table-requires c κs = (
+  search needs,
+  omega (
+    arith,
+    row-fits (periods * length (c .before .before .before .before .args .mask .now)) _ _
+        (c .loop-test .taken),
+  ),
+)
 
 returns : tie.Need-returns Inv-loop μ-loop
 returns c = search by-each-row depth 12
-
-add-j : tie.Need-add-j Inv-loop μ-loop
-add-j c = search needs
-
-loop-less : tie.Need-loop-less Inv-loop μ-loop
-loop-less c = search needs
 
 loop-again : tie.Need-loop-again Inv-loop μ-loop
 loop-again c = search by-each-row depth 12
@@ -57,12 +56,12 @@ each-table-spec =
     Inv-loop
     μ-loop
     loop-holds
-    mul-table
+    (λ c. search needs)
     mul-table-2
     add-table
     table-requires
     returns
-    add-j
-    loop-less
+    (λ c. search needs)
+    (λ c. search needs)
     loop-again
     returns-2)

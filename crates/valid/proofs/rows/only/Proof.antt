@@ -22,28 +22,13 @@ loop-holds : tie.Need-loop-holds Inv-loop μ-loop
 unfolding every
 loop-holds c = search needs
 
-add-beside : tie.Need-add-beside Inv-loop μ-loop
-add-beside c = search needs
-
-shared-slice-read-beside : tie.Need-shared-slice-read-beside Inv-loop μ-loop
-shared-slice-read-beside c = search needs
-
-shared-slice-read-beside-2 : tie.Need-shared-slice-read-beside-2 Inv-loop μ-loop
-shared-slice-read-beside-2 c = search needs
-
-shared-slice-read-beside-3 : tie.Need-shared-slice-read-beside-3 Inv-loop μ-loop
-shared-slice-read-beside-3 c = search needs
-
-add-i : tie.Need-add-i Inv-loop μ-loop
-add-i c = search needs
-
-loop-less : tie.Need-loop-less Inv-loop μ-loop
-loop-less c = search needs
-
 loop-again : tie.Need-loop-again Inv-loop μ-loop
 loop-again c =
-    let l = c .before .before .before .before .loop in
-    (search needs, only-more _ _ _ _ (l .beside) (l .inv .1) (c .before .before .shared-slice-known .given _ .fits) (c .before .shared-slice-known2 .given _ .fits))
+    let l = c .before .before .before .before .loop in (
+      search needs,
+      only-more _ _ _ _ (l .beside) (l .inv .1) (c .before .before .shared-slice-known .given _ .fits)
+          (c .before .shared-slice-known2 .given _ .fits),
+    )
 
 returns : tie.Need-returns Inv-loop μ-loop
 returns c = every-all _ _ _ _ (omega arith) (c .before .loop .inv .1) ∙ sym (only-bytes _ _ _ _)
@@ -55,11 +40,11 @@ only-spec =
     Inv-loop
     μ-loop
     loop-holds
-    add-beside
-    shared-slice-read-beside
-    shared-slice-read-beside-2
-    shared-slice-read-beside-3
-    add-i
-    loop-less
+    (λ c. search needs)
+    (λ c. search needs)
+    (λ c. search needs)
+    (λ c. search needs)
+    (λ c. search needs)
+    (λ c. search needs)
     loop-again
     returns)

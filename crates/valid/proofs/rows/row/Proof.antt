@@ -4,17 +4,12 @@ use Rattle.valid.proofs.Only.{only-there, only-zeros}
 use Rattle.valid.proofs.rows.row.Statement.{statement}
 use Rattle.valid.proofs.rows.row.Tie as tie
 
-only-requires : tie.Need-only-requires
-only-requires c κs = search needs
-
 returns : tie.Need-returns
 returns c = search only-there
 
-all-zero-requires : tie.Need-all-zero-requires
-all-zero-requires c κs = search needs
-
 returns-2 : tie.Need-returns-2
-returns-2 c = only-zeros _ _ _ _ _ _ (λ k. c .before .before .before .shared-slice-known .given k .fits) (c .before .if1 .left) (c .all-zero .ensures)
+returns-2 c =
+    only-zeros _ _ _ _ _ _ (λ k. c .before .before .before .shared-slice-known .given k .fits) (c .before .if1 .left) (c .all-zero .ensures)
 
 pub row-spec : {M : Type 1} → statement M
-row-spec = tie.close (tie.spec only-requires returns all-zero-requires returns-2)
+row-spec = tie.close (tie.spec (λ c κs. search needs) returns (λ c κs. search needs) returns-2)

@@ -4,20 +4,11 @@ use Rattle.valid.proofs.Regions.{by-all-sets}
 use Rattle.valid.proofs.sets.facts_ok.Statement.{statement}
 use Rattle.valid.proofs.sets.facts_ok.Tie as tie
 
-item-sets-ok-requires : tie.Need-item-sets-ok-requires
-item-sets-ok-requires c κs = search needs
-
 returns : tie.Need-returns
 returns c = search by-all-sets depth 12
 
-peer-sets-ok-requires : tie.Need-peer-sets-ok-requires
-peer-sets-ok-requires c κs = search needs
-
 returns-2 : tie.Need-returns-2
 returns-2 c = search by-all-sets depth 12
-
-heard-ok-requires : tie.Need-heard-ok-requires
-heard-ok-requires c κs = search needs
 
 returns-3 : tie.Need-returns-3
 returns-3 c = search by-all-sets depth 12
@@ -26,9 +17,9 @@ pub facts-ok-spec : {M : Type 1} → statement M
 facts-ok-spec =
     tie.close
     (tie.spec
-    item-sets-ok-requires
+    (λ c κs. search needs)
     returns
-    peer-sets-ok-requires
+    (λ c κs. search needs)
     returns-2
-    heard-ok-requires
+    (λ c κs. search needs)
     returns-3)
