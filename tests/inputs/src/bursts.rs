@@ -212,10 +212,9 @@ impl Bursts<'_, '_> {
     fn outage(&mut self) {
         let peer = 1 + self.below(self.making.table.n);
         self.deliver(vec![Step::Down { peer }]);
-        if self.chance(50) {
-            self.offer();
-        } else {
-            self.commit();
+        match self.chance(50) {
+            true => self.offer(),
+            false => self.commit(),
         }
         self.deliver(vec![Step::Up { peer }]);
     }

@@ -148,8 +148,15 @@ fn from_the_close_to_the_board() {
 #[test]
 fn forms_names_roles_and_outages() {
     check(&[
-        ("hand 0 4", "6 name: peer 0: the table has peers 1 to 4; item 4: the table has items 0 to 3"),
-        ("fetch 1 9 2", "6 name: the other peer 9: the table has peers 1 to 4; period 2: the table has periods 0 to 1"),
+        (
+            "hand 0 4",
+            "6 name: peer 0: the table has peers 1 to 4; item 4: the table has items 0 to 3",
+        ),
+        (
+            "fetch 1 9 2",
+            "6 name: the other peer 9: the table has peers 1 to 4; \
+                period 2: the table has periods 0 to 1",
+        ),
         ("false-hash 4 0 board 4", "6 name: item 4 of the board: the table has items 0 to 3"),
         ("sign 4 0", "7 role: peer 4 is dishonest, but an honest peer is needed"),
         ("fetch 1 4 0", "7 role: peer 4 is dishonest, but an honest peer is needed"),
@@ -159,10 +166,7 @@ fn forms_names_roles_and_outages() {
         ("close 2", "8 down: peer 2 is down"),
         ("fetch 1 2 0", "8 down: peer 2 is down"),
         ("up 2", "0 done: peer 2 is up"),
-        (
-            "raw 13 00 00 00 00 00 00 00 00 00 00 00 00",
-            "5 form: op 19, but the ops are 1 to 18",
-        ),
+        ("raw 13 00 00 00 00 00 00 00 00 00 00 00 00", "5 form: op 19, but the ops are 1 to 18"),
         (
             "raw 07 01 02 00 03 00 00 00 00 00 00 00 05",
             "5 form: op 7 (close) needs 0 in the fields that it does not use: \
