@@ -167,8 +167,7 @@ impl Bursts<'_, '_> {
 
     /// Databases arrive late, and the peers are asked for shares once more.
     fn late_databases(&mut self) {
-        let item = self.item();
-        let period = self.next_to_back();
+        let (item, period) = (self.item(), self.next_to_back());
         let round = self.fallback(period);
         self.deliver(round);
         self.shares(item, period);
