@@ -19,17 +19,17 @@ const ROUNDS: usize = 4;
 
 /// The refusals of a step in the order in which they are judged: the table's,
 /// but that op 10 has 10 before 9.
-fn judged(bytes: &[u8]) -> [Refusal; 9] {
+fn judged(bytes: &[u8]) -> &'static [Refusal] {
     match bytes.first() {
-        Some(10) => [Form, Name, Role, Down, Unknown, Period, Clash, Short, Full],
-        _ => [Form, Name, Role, Down, Period, Unknown, Clash, Short, Full],
+        Some(10) => &[Form, Name, Role, Down, Unknown, Period, Clash, Short, Full],
+        _ => &[Form, Name, Role, Down, Period, Unknown, Clash, Short, Full],
     }
 }
 
 /// The first refusal for which there is a reason.
 fn first(table: &Table, state: &State, bytes: &[u8]) -> Option<Refusal> {
     let has_reason = |refusal: &Refusal| refusals::why(table, state, bytes, *refusal).is_some();
-    judged(bytes).into_iter().find(has_reason)
+    judged(bytes).iter().copied().find(has_reason)
 }
 
 /// The first refusal of an input for which there is a reason.
