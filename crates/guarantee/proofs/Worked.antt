@@ -47,7 +47,8 @@ pub record ByRules (table : List ℕ) (w : Worked) (signers : List (ℕ × ℕ �
 
 pub record Computed : Type 0 where
   pub case-r : ByRules tables.caseR caseR ((1, 0, 0, 1) ∷ []) ((0, 0) ∷ []) ((0, 1) ∷ [])
-  pub two-faced : ByRules (barelyBytes 4) twoFaced ((1, 0, 0, 3) ∷ (2, 0, 0, 3) ∷ (3, 0, 0, 3) ∷ (3, 0, 1, 2) ∷ []) ((0, 0) ∷ []) ((0, 1) ∷ [])
+  pub two-faced : ByRules (barelyBytes 4) twoFaced ((1, 0, 0, 3) ∷ (2, 0, 0, 3) ∷ (3, 0, 0, 3) ∷ (3, 0, 1, 2) ∷ [])
+      ((0, 0) ∷ []) ((0, 1) ∷ [])
 
 computed : Computed
 unfolding headerSize fieldOf first any every bit member pack numberAt part sameBytes readItem readKind clashIn clash add1 add2 add3 add4
