@@ -4,9 +4,6 @@ use Rattle.judge.proofs.Row.{row, asked}
 use Rattle.judge.proofs.ballots.judge_post.Statement.{statement}
 use Rattle.judge.proofs.ballots.judge_post.Tie as tie
 
-no-item-requires : tie.Need-no-item-requires
-no-item-requires c κs = search asked
-
 returns : tie.Need-returns
 unfolding answer rule
 returns c = search row depth 5
@@ -19,6 +16,6 @@ pub judge-post-spec : {M : Type 1} → statement M
 judge-post-spec =
     tie.close
     (tie.spec
-    no-item-requires
+    (λ c κs. search asked)
     returns
     returns-2)

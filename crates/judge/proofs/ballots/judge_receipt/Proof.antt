@@ -4,22 +4,13 @@ use Rattle.judge.proofs.Row.{row, asked}
 use Rattle.judge.proofs.ballots.judge_receipt.Statement.{statement}
 use Rattle.judge.proofs.ballots.judge_receipt.Tie as tie
 
-no-period-requires : tie.Need-no-period-requires
-no-period-requires c κs = search asked
-
 returns : tie.Need-returns
 unfolding answer rule
 returns c = search row depth 7
 
-no-item-requires : tie.Need-no-item-requires
-no-item-requires c κs = search asked
-
 returns-2 : tie.Need-returns-2
 unfolding answer rule
 returns-2 c = search row depth 7
-
-few-sharers-requires : tie.Need-few-sharers-requires
-few-sharers-requires c κs = search asked
 
 returns-3 : tie.Need-returns-3
 unfolding answer rule
@@ -33,10 +24,10 @@ pub judge-receipt-spec : {M : Type 1} → statement M
 judge-receipt-spec =
     tie.close
     (tie.spec
-    no-period-requires
+    (λ c κs. search asked)
     returns
-    no-item-requires
+    (λ c κs. search asked)
     returns-2
-    few-sharers-requires
+    (λ c κs. search asked)
     returns-3
     returns-4)

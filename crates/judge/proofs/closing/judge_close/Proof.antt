@@ -4,29 +4,17 @@ use Rattle.judge.proofs.Row.{row, asked}
 use Rattle.judge.proofs.closing.judge_close.Statement.{statement}
 use Rattle.judge.proofs.closing.judge_close.Tie as tie
 
-no-peer-requires : tie.Need-no-peer-requires
-no-peer-requires c κs = search asked
-
 returns : tie.Need-returns
 unfolding answer rule
 returns c = search row depth 8
-
-not-honest-requires : tie.Need-not-honest-requires
-not-honest-requires c κs = search asked
 
 returns-2 : tie.Need-returns-2
 unfolding answer rule
 returns-2 c = search row depth 8
 
-is-down-requires : tie.Need-is-down-requires
-is-down-requires c κs = search asked
-
 returns-3 : tie.Need-returns-3
 unfolding answer rule
 returns-3 c = search row depth 8
-
-none-open-requires : tie.Need-none-open-requires
-none-open-requires c κs = search asked
 
 returns-4 : tie.Need-returns-4
 unfolding answer rule
@@ -40,12 +28,12 @@ pub judge-close-spec : {M : Type 1} → statement M
 judge-close-spec =
     tie.close
     (tie.spec
-    no-peer-requires
+    (λ c κs. search asked)
     returns
-    not-honest-requires
+    (λ c κs. search asked)
     returns-2
-    is-down-requires
+    (λ c κs. search asked)
     returns-3
-    none-open-requires
+    (λ c κs. search asked)
     returns-4
     returns-5)

@@ -4,15 +4,9 @@ use Rattle.judge.proofs.Row.{row, asked}
 use Rattle.judge.proofs.outside.judge_down.Statement.{statement}
 use Rattle.judge.proofs.outside.judge_down.Tie as tie
 
-no-peer-requires : tie.Need-no-peer-requires
-no-peer-requires c κs = search asked
-
 returns : tie.Need-returns
 unfolding answer rule
 returns c = search row depth 6
-
-not-honest-requires : tie.Need-not-honest-requires
-not-honest-requires c κs = search asked
 
 returns-2 : tie.Need-returns-2
 unfolding answer rule
@@ -26,8 +20,8 @@ pub judge-down-spec : {M : Type 1} → statement M
 judge-down-spec =
     tie.close
     (tie.spec
-    no-peer-requires
+    (λ c κs. search asked)
     returns
-    not-honest-requires
+    (λ c κs. search asked)
     returns-2
     returns-3)

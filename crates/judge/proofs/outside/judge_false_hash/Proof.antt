@@ -4,29 +4,17 @@ use Rattle.judge.proofs.Row.{row, asked, of-items}
 use Rattle.judge.proofs.outside.judge_false_hash.Statement.{statement}
 use Rattle.judge.proofs.outside.judge_false_hash.Tie as tie
 
-no-peer-requires : tie.Need-no-peer-requires
-no-peer-requires c κs = search asked
-
 returns : tie.Need-returns
 unfolding answer rule
 returns c = search row depth 10
-
-no-period-requires : tie.Need-no-period-requires
-no-period-requires c κs = search asked
 
 returns-2 : tie.Need-returns-2
 unfolding answer rule
 returns-2 c = search row depth 10
 
-no-board-requires : tie.Need-no-board-requires
-no-board-requires c κs = search asked
-
 returns-3 : tie.Need-returns-3
 unfolding answer rule
 returns-3 c = search row depth 10
-
-is-honest-requires : tie.Need-is-honest-requires
-is-honest-requires c κs = search asked
 
 returns-4 : tie.Need-returns-4
 unfolding answer rule
@@ -40,9 +28,6 @@ returns-5 : tie.Need-returns-5
 unfolding answer rule
 returns-5 c = search row depth 10
 
-is-full-requires : tie.Need-is-full-requires
-is-full-requires c κs = search asked
-
 returns-6 : tie.Need-returns-6
 unfolding answer rule
 returns-6 c = search row depth 10
@@ -55,16 +40,16 @@ pub judge-false-hash-spec : {M : Type 1} → statement M
 judge-false-hash-spec =
     tie.close
     (tie.spec
-    no-peer-requires
+    (λ c κs. search asked)
     returns
-    no-period-requires
+    (λ c κs. search asked)
     returns-2
-    no-board-requires
+    (λ c κs. search asked)
     returns-3
-    is-honest-requires
+    (λ c κs. search asked)
     returns-4
     unposted-requires
     returns-5
-    is-full-requires
+    (λ c κs. search asked)
     returns-6
     returns-7)
