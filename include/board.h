@@ -99,7 +99,7 @@ enum board_op {
 #define BOARD_TABLE_PERIODS_AT 4
 #define BOARD_TABLE_ITEMS_AT 5
 #define BOARD_TABLE_PAIRS_AT 6
-#define BOARD_TABLE_MOST 2630 /* no table is longer */
+#define BOARD_TABLE_MOST 2630   /* no table is longer */
 
 /* A pair: where its item stands in the table. */
 #define BOARD_PAIR_LENGTH 4
@@ -122,18 +122,18 @@ enum board_item_kind {
  * a is bit a % 8 of byte a / 8; beside each set is the bit of peer j or k,
  * period p, item i, entry e. */
 #define BOARD_STATE_LENGTH 22906
-#define BOARD_STATE_POSTED_AT 0      /* i */
-#define BOARD_STATE_SIGNED_AT 8      /* (64 p + i) 16 + k - 1 */
-#define BOARD_STATE_SHARED_AT 1032   /* (64 p + i) 16 + k - 1 */
-#define BOARD_STATE_RECEIPTED_AT 2056 /* 64 p + i */
-#define BOARD_STATE_HELD_AT 2120     /* (8 (j - 1) + p) 64 + i */
-#define BOARD_STATE_DATABASES_AT 3144 /* ((8 (j - 1) + p) 64 + i) 16 + k - 1 */
-#define BOARD_STATE_HEARD_AT 19528   /* 256 (j - 1) + e */
-#define BOARD_STATE_OPEN_AT 20040    /* p, the open period of peer j: byte j - 1 */
-#define BOARD_STATE_NEXT_AT 20056    /* c, its next period to back: byte j - 1 */
-#define BOARD_STATE_DOWN_AT 20072    /* 1 if peer j is down, or 0: byte j - 1 */
-#define BOARD_STATE_COUNT_AT 20088   /* the bag's entries: 2 bytes, low first */
-#define BOARD_STATE_BAG_AT 20090     /* entry e begins BOARD_ENTRY_LENGTH e later */
+#define BOARD_STATE_POSTED_AT 0       /* i */
+#define BOARD_STATE_SIGNED_AT 8       /* (64 * p + i) * 16 + k - 1 */
+#define BOARD_STATE_SHARED_AT 1032    /* (64 * p + i) * 16 + k - 1 */
+#define BOARD_STATE_RECEIPTED_AT 2056 /* 64 * p + i */
+#define BOARD_STATE_HELD_AT 2120      /* (8 * (j - 1) + p) * 64 + i */
+#define BOARD_STATE_DATABASES_AT 3144 /* ((8 * (j - 1) + p) * 64 + i) * 16 + k - 1 */
+#define BOARD_STATE_HEARD_AT 19528    /* 256 * (j - 1) + e */
+#define BOARD_STATE_OPEN_AT 20040     /* p, the open period of peer j: byte j - 1 */
+#define BOARD_STATE_NEXT_AT 20056     /* c, its next period to back: byte j - 1 */
+#define BOARD_STATE_DOWN_AT 20072     /* 1 if peer j is down, or 0: byte j - 1 */
+#define BOARD_STATE_COUNT_AT 20088    /* the bag's entries: 2 bytes, low first */
+#define BOARD_STATE_BAG_AT 20090      /* entry e begins BOARD_ENTRY_LENGTH * e later */
 
 /* An entry of the bag. */
 #define BOARD_ENTRY_LENGTH 11

@@ -28,7 +28,8 @@ pub extern "C" fn board_state_length() -> usize
 // Makes a state buffer fresh; the answer is 0, or the refusal.
 #[no_mangle]
 pub extern "C" fn board_fresh(table: &[u8], state: &mut [u8]) -> u8
-    ensures { λ r. ⌜ (r ≡ freshAnswer (now (table .entry)) (now (state .entry))) × (now (state .exit) ≡ freshBytes (now (table .entry)) (now (state .entry))) ⌝ }
+    ensures { λ r. ⌜ (r ≡ freshAnswer (now (table .entry)) (now (state .entry)))
+        × (now (state .exit) ≡ freshBytes (now (table .entry)) (now (state .entry))) ⌝ }
 {
     engine::fresh(table, state)
 }
@@ -36,7 +37,8 @@ pub extern "C" fn board_fresh(table: &[u8], state: &mut [u8]) -> u8
 // Takes a step of thirteen bytes; the answer is 0, or the refusal.
 #[no_mangle]
 pub extern "C" fn board_step(table: &[u8], state: &mut [u8], step: &[u8]) -> u8
-    ensures { λ r. ⌜ (r ≡ stepAnswer (now (table .entry)) (now (state .entry)) (now (step .entry))) × (now (state .exit) ≡ stepBytes (now (table .entry)) (now (state .entry)) (now (step .entry))) ⌝ }
+    ensures { λ r. ⌜ (r ≡ stepAnswer (now (table .entry)) (now (state .entry)) (now (step .entry)))
+        × (now (state .exit) ≡ stepBytes (now (table .entry)) (now (state .entry)) (now (step .entry))) ⌝ }
 {
     engine::step(table, state, step)
 }
@@ -53,7 +55,8 @@ pub extern "C" fn board_report_most() -> usize
 #[no_mangle]
 pub extern "C" fn board_rehearse(input: &[u8], state: &mut [u8], out: &mut [u8]) -> usize
     ensures { λ r. ⌜ (r ≡ length (reported (now (input .entry)) (now (state .entry)))) × (r ≤ reportMost) ⌝ }
-    ensures { λ _. ⌜ now (out .exit) ≡ over (now (out .entry)) 0 (reported (now (input .entry)) (now (state .entry))) ⌝ }
+    ensures { λ _. ⌜ now (out .exit)
+        ≡ over (now (out .entry)) 0 (reported (now (input .entry)) (now (state .entry))) ⌝ }
     ensures { λ _. ⌜ now (state .exit) ≡ stateLeft (now (input .entry)) (now (state .entry)) ⌝ }
 {
     rehearsal::rehearse(input, state, out)

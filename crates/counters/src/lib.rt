@@ -1,6 +1,8 @@
 // The two counters of a peer, lent, so that they move only through close and back.
-// `current` is p of document 01, the open period (the number of periods: none); `to_back` is c, the next period to back. The rules call them `current` and `toBack`.
-// `close` and `back` take the counters lent; `after_close` and `after_back` lend a copy to them, for those who hold the counters by value.
+// `current` is p of document 01, the open period (the number of periods: none); `to_back` is c, the next period to
+// back. The rules call them `current` and `toBack`.
+// `close` and `back` take the counters lent; `after_close` and `after_back` lend a copy to them, for those who hold the
+// counters by value.
 // It uses no other crate.
 ghost use mathlib.Core.Path.{_≡_};
 ghost use Prim.Native.Nat.{_<_};

@@ -1,5 +1,6 @@
 pub mod Table
 pub mod Every
+pub mod Bytes
 pub mod Premise
 pub mod Worked
 pub mod Tests

@@ -13,6 +13,7 @@ use Rattle.rules.specs.Demand3.{Premise}
 use Rattle.rules.proofs.Demand3.{counted}
 use Rattle.edges.specs.Cases.{table}
 use Rattle.edges.specs.Premise.{leastThreshold, Barely, PremiseEdges}
+use Rattle.edges.proofs.Bytes.{met-by-bytes}
 
 -- of the peers 1 to n, with n at most t, all are up to t
 up-to-all : (n t : ℕ) → n ≤ t → weight ones n (λ k. leb k t) ≡ n
@@ -47,4 +48,4 @@ barely-meets n l = record {
 
 pub premise-edges : PremiseEdges
 unfolding leastTable
-premise-edges = record { met = barely-meets; least = λ n t. omega arith; constants = refl }
+premise-edges = record { met = barely-meets; met-by-bytes = met-by-bytes; least = λ n t. omega arith; constants = refl }

@@ -33,7 +33,8 @@ table-edges =
 
 pub table-cases : TableCases
 unfolding refusal headerOk headerSize fieldOf fieldsOk thresholdOk leastThreshold tablePairsOk pairsOk pairsFit startsAtEnd endBefore
-    itemBelow itemsOk itemOk noTwins newAt differ clashMask clashIn clash readItem readKind first every numberAt part sameBytes bit member pack weight
+    itemBelow itemsOk itemOk noTwins newAt differ clashMask clashIn clash readItem readKind first every numberAt part sameBytes bit
+    member pack weight
 table-cases =
     record {
       no-bytes = refl;

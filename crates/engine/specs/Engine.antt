@@ -46,7 +46,8 @@ stepAnswer table s step =
 
 -- a refused call alters nothing
 unfoldable pub stepBytes : List ℕ → List ℕ → List ℕ → List ℕ
-stepBytes table s step = cond (eqb (stepAnswer table s step) 0) (encode (leaveOn (rulesTable table) (contents s) (read step))) s
+stepBytes table s step =
+    cond (eqb (stepAnswer table s step) 0) (encode (leaveOn (rulesTable table) (contents s) (read step))) s
 
 -- fresh: the table's refusals 1 to 4, then the buffer's length only
 unfoldable pub freshAnswer : List ℕ → List ℕ → ℕ

@@ -1,4 +1,5 @@
-// The inner step: on a state that is ready, a step's answer and effect, in place. Nothing is copied and nothing re-validated.
+// The inner step: on a state that is ready, a step's answer and effect, in place. Nothing is copied and nothing
+// re-validated.
 // Rows of clashes may be handed in, made once for many steps; where there is no row of an item, its row is made anew.
 // Of the table only what clashes is asked.
 ghost use mathlib.Core.Path.{_≡_};

@@ -1,4 +1,5 @@
-// The engine: fresh and step, for any bytes. The table and the state are validated once for each call; the inner step re-validates nothing.
+// The engine: fresh and step, for any bytes. The table and the state are validated once for each call; the inner step
+// re-validates nothing.
 // It uses header to read the table, ballot to judge it, valid to judge the state, clash for what clashes, and steps.
 ghost use mathlib.Core.Path.{_≡_};
 ghost use lib.ListN.{length, replicate};
@@ -22,9 +23,11 @@ pub fn clear(s: &mut [u8])
     }
 }
 
-// Makes a state buffer fresh. It answers 1 to 4 for the table, or 14 for the buffer's length; what is refused alters nothing.
+// Makes a state buffer fresh. It answers 1 to 4 for the table, or 14 for the buffer's length; what is refused alters
+// nothing.
 pub fn fresh(table: &[u8], s: &mut [u8]) -> u8
-    ensures { λ r. ⌜ (r ≡ freshAnswer (now (table .entry)) (now (s .entry))) × (now (s .exit) ≡ freshBytes (now (table .entry)) (now (s .entry))) ⌝ }
+    ensures { λ r. ⌜ (r ≡ freshAnswer (now (table .entry)) (now (s .entry)))
+        × (now (s .exit) ≡ freshBytes (now (table .entry)) (now (s .entry))) ⌝ }
 {
     let refusal = check_table(table);
     if refusal != 0 {
@@ -37,10 +40,12 @@ pub fn fresh(table: &[u8], s: &mut [u8]) -> u8
     0
 }
 
-// A step on a table that was taken, with what was made of it once, and on a state that is ready: nothing is validated again.
+// A step on a table that was taken, with what was made of it once, and on a state that is ready: nothing is validated
+// again.
 pub fn run_step(table: &[u8], s: &mut [u8], h: Head, rows: &[u64], step: &[u8]) -> u8
     requires { ⌜ Prepared (now table) h (now rows) × Ready h (now s) ⌝ }
-    ensures { λ r. ⌜ (r ≡ stepAnswer (now (table .entry)) (now (s .entry)) (now (step .entry))) × (now (s .exit) ≡ stepBytes (now (table .entry)) (now (s .entry)) (now (step .entry))) ⌝ }
+    ensures { λ r. ⌜ (r ≡ stepAnswer (now (table .entry)) (now (s .entry)) (now (step .entry)))
+        × (now (s .exit) ≡ stepBytes (now (table .entry)) (now (s .entry)) (now (step .entry))) ⌝ }
 {
     match form::read_step(step) {
         Call::Formed(st) => advance::advance(table, s, h, rows, st),
@@ -50,7 +55,8 @@ pub fn run_step(table: &[u8], s: &mut [u8], h: Head, rows: &[u64], step: &[u8]) 
 
 // Takes a step, or answers the first refusal that applies; what is refused alters nothing.
 pub fn step(table: &[u8], s: &mut [u8], step: &[u8]) -> u8
-    ensures { λ r. ⌜ (r ≡ stepAnswer (now (table .entry)) (now (s .entry)) (now (step .entry))) × (now (s .exit) ≡ stepBytes (now (table .entry)) (now (s .entry)) (now (step .entry))) ⌝ }
+    ensures { λ r. ⌜ (r ≡ stepAnswer (now (table .entry)) (now (s .entry)) (now (step .entry)))
+        × (now (s .exit) ≡ stepBytes (now (table .entry)) (now (s .entry)) (now (step .entry))) ⌝ }
 {
     let refusal = check_table(table);
     if refusal != 0 {

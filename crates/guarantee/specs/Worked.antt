@@ -2,30 +2,17 @@
 use Prim.Native.Nat.{ℕ, _≤_}
 use mathlib.Core.Bool.{true}
 use mathlib.Core.List.{List, [], _∷_}
-use mathlib.Core.Path.{_≡_}
-use Rattle.header.specs.Header.{headOf, thresholdOf, honestCount}
-use Rattle.clash.specs.Clash.{clashIn}
 use Rattle.engine.specs.Engine.{rulesTable}
-use Rattle.edges.specs.Tables.{twoVotes}
 use Rattle.edges.specs.Tables as tables
-use Rattle.edges.specs.Premise.{leastThreshold}
+use Rattle.edges.specs.Premise.{barelyBytes}
 use Rattle.edges.specs.Cases.{Worked, caseR, twoFaced}
 use Rattle.edges.specs.Worked.{Ends, Ideally}
 use Rattle.guarantee.specs.Demand3.{HonestEnough, byBytes}
 
--- n peers with the least threshold t for them, of which the first t are honest; two items, which clash
-abbrev pub barely : ℕ → List ℕ
-barely n = twoVotes n (leastThreshold n) (leastThreshold n)
-
--- what such a table has: it meets the premise, exactly t peers are honest, and some items clash
-pub record Barely (n : ℕ) : Type 0 where
-  pub meets : HonestEnough (barely n)
-  pub just-enough : honestCount (headOf (barely n)) ≡ thresholdOf (barely n)
-  pub some-clash : clashIn (barely n) 0 1 ≡ true
-
+-- tables of bytes that meet the premise
 pub record BytesMeet : Type 0 where
-  -- with any number of peers that a table can have
-  pub barely-met : (n : ℕ) → 1 ≤ n → n ≤ 16 → Barely n
+  -- with any number of peers that a table can have, the least threshold t for them, and exactly t honest ones
+  pub barely-met : (n : ℕ) → 1 ≤ n → n ≤ 16 → HonestEnough (barelyBytes n)
   pub case-r-met : HonestEnough tables.caseR
 
 -- a run of the engine on bytes: its answers, what a report of it lists, and the ideal board beside it, with each move
@@ -39,5 +26,5 @@ pub record BytesRun : Type 0 where
   -- document 01's case R, on its fifteen-byte table
   pub case-r : RunsTo tables.caseR caseR ((1, 0, 0, 1) ∷ []) ((0, 0) ∷ []) ((0, 1) ∷ [])
   -- four peers of which one is two-faced, on a table that just meets the premise
-  pub two-faced : RunsTo (barely 4) twoFaced ((1, 0, 0, 3) ∷ (2, 0, 0, 3) ∷ (3, 0, 0, 3) ∷ (3, 0, 1, 2) ∷ [])
+  pub two-faced : RunsTo (barelyBytes 4) twoFaced ((1, 0, 0, 3) ∷ (2, 0, 0, 3) ∷ (3, 0, 0, 3) ∷ (3, 0, 1, 2) ∷ [])
       ((0, 0) ∷ []) ((0, 1) ∷ [])

@@ -31,7 +31,8 @@ tableIn input = part input 0 (tableEnd input)
 unfoldable pub tableThere : List ℕ → Bool
 tableThere input = pairsFit input (headerSize input) (itemsOf input) && leb (tableEnd input) (length input)
 
--- input comes before all; header and pairs, which say where the table ends, are judged on the input; then the table's own
+-- input comes before all; header and pairs, which say where the table ends, are judged on the input; then the table's
+-- own
 abbrev pub inputRefusals : List ℕ → Refusals
 inputRefusals input =
     (word.input, ltb inputMost (length input))

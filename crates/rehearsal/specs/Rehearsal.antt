@@ -1,4 +1,5 @@
--- The rehearsal of document 01: each step runs on the state that the one before it left, and the report tells the answers and what is held at the end.
+-- The rehearsal of document 01: each step runs on the state that the one before it left, and the report tells the
+-- answers and what is held at the end.
 use Prim.Native.Nat.{ℕ, zero, suc, _+_}
 use mathlib.Core.Bool.{cond}
 use mathlib.Core.List.{List, _++_}
@@ -37,7 +38,8 @@ reportOf input =
 
 -- the first refusal of a rehearsal in a lent state buffer: of the input, then state for the buffer's length
 unfoldable pub lentRefusal : List ℕ → List ℕ → ℕ
-lentRefusal input s = cond (eqb (inputRefusal input) 0) (cond (eqb (length s) size) 0 (numberOf state)) (inputRefusal input)
+lentRefusal input s =
+    cond (eqb (inputRefusal input) 0) (cond (eqb (length s) size) 0 (numberOf state)) (inputRefusal input)
 
 -- the whole output: the report, or the line of the refusal
 unfoldable pub reported : List ℕ → List ℕ → List ℕ

@@ -1,6 +1,7 @@
 // The rehearsal: for any input bytes the whole report, in a lent state and a lent output.
 // The table is validated once, its rows of clashes are made once, and each step is run in place.
-// It uses header and pairs to find the table, ballot to judge it, clash for its rows, engine for the steps, and report for the text.
+// It uses header and pairs to find the table, ballot to judge it, clash for its rows, engine for the steps, and report
+// for the text.
 ghost use mathlib.Core.Path.{_≡_};
 ghost use Prim.Native.Nat.{_≤_};
 ghost use lib.ListN.{length};

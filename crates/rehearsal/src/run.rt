@@ -29,7 +29,8 @@ fn run_one(
     out: &mut [u8],
     at: usize,
 ) -> usize
-    requires { ⌜ Made (now input) (now table) h (now rows) × (start ≡ tableEnd (now input)) × (k < inputMost) × (now s ≡ stateAt (now input) k) ⌝ }
+    requires { ⌜ Made (now input) (now table) h (now rows) × (start ≡ tableEnd (now input)) × (k < inputMost)
+        × (now s ≡ stateAt (now input) k) ⌝ }
     ensures { λ to. ⌜ RanOne (now (input .entry)) k (now (s .exit)) (now (out .entry)) at (now (out .exit)) to ⌝ }
 {
     let answer = engine::run_step(table, s, h, rows, call_at(input, start, k));
@@ -47,7 +48,8 @@ fn run(
     at: usize,
 ) -> usize
     requires { ⌜ Made (now input) (now table) h (now rows) × (now s ≡ stateAt (now input) 0) ⌝ }
-    ensures { λ to. ⌜ Ran (now (input .entry)) (stepCount (now (input .entry))) (now (s .exit)) (now (out .entry)) at (now (out .exit)) to ⌝ }
+    ensures { λ to. ⌜ Ran (now (input .entry)) (stepCount (now (input .entry)))
+        (now (s .exit)) (now (out .entry)) at (now (out .exit)) to ⌝ }
 {
     let start = table_end(input);
     let n = step_count(input);
@@ -63,7 +65,8 @@ fn run(
 // The report of a table that was read and of the steps run from the fresh state, and the state that they lead to.
 fn tell(input: &[u8], table: &[u8], h: Head, rows: &[u64], s: &mut [u8], out: &mut [u8]) -> usize
     requires { ⌜ Made (now input) (now table) h (now rows) × (now s ≡ stateAt (now input) 0) ⌝ }
-    ensures { λ to. ⌜ (now (s .exit) ≡ lastState (now (input .entry))) × Wrote (now (out .entry)) 0 (reportOf (now (input .entry))) (now (out .exit)) to ⌝ }
+    ensures { λ to. ⌜ (now (s .exit) ≡ lastState (now (input .entry)))
+        × Wrote (now (out .entry)) 0 (reportOf (now (input .entry))) (now (out .exit)) to ⌝ }
 {
     let a = put_head(out, 0, h.n, h.t, honest_count(h));
     let b = run(input, table, h, rows, s, out, a);
@@ -73,7 +76,8 @@ fn tell(input: &[u8], table: &[u8], h: Head, rows: &[u64], s: &mut [u8], out: &m
 // The report of an input that is not refused, and the state that its steps lead to.
 pub fn play(input: &[u8], table: &[u8], s: &mut [u8], out: &mut [u8]) -> usize
     requires { ⌜ Taken (now input) × (now table ≡ tableIn (now input)) × (length (now s) ≡ size) ⌝ }
-    ensures { λ to. ⌜ (now (s .exit) ≡ lastState (now (input .entry))) × Wrote (now (out .entry)) 0 (reportOf (now (input .entry))) (now (out .exit)) to ⌝ }
+    ensures { λ to. ⌜ (now (s .exit) ≡ lastState (now (input .entry)))
+        × Wrote (now (out .entry)) 0 (reportOf (now (input .entry))) (now (out .exit)) to ⌝ }
 {
     let h = header::head_of(table);
     let rows = clash_rows(table);

@@ -1,4 +1,5 @@
-// Runs stored rehearsals one after the other and writes their reports, which are compared with those of an independent engine.
+// Runs stored rehearsals one after the other and writes their reports, which are compared with those of an independent
+// engine.
 // Standard input has their number, then for each its length and its bytes; a number has four bytes, high byte first.
 ghost use Rattle.io.specs.Counts.{Counts};
 use rehearsal::INPUT_MOST;

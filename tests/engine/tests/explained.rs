@@ -40,6 +40,12 @@ fn told(explanation: &str) -> Vec<(&str, &str)> {
     parts.map(|parts| parts.expect("an answer and its reason")).collect()
 }
 
+/// The first step that is told without a reason, with its answer.
+fn without_reason(explanation: &str) -> Option<(&str, &str)> {
+    let lines = explanation.lines().zip(explanation.lines().skip(1));
+    lines.into_iter().find(|(_, told)| told.ends_with(NO_REASON))
+}
+
 /// The number of an answer that is told with its word.
 fn number(answer: &str) -> &str {
     answer.split_once(' ').expect("a number and its word").0
@@ -55,8 +61,7 @@ fn answers_of_the_proved_program_and_a_reason_for_each() {
         let (told, report) = (told(&explanation), report(&input));
         let numbers: Vec<&str> = told.iter().map(|(answer, _)| number(answer)).collect();
         assert_eq!(numbers, reported(&report), "{place}");
-        let missing = told.iter().position(|(_, reason)| *reason == NO_REASON);
-        assert_eq!(missing, None, "{place}: {explanation}");
+        assert_eq!(without_reason(&explanation), None, "{place}");
         let rehearsed = Rehearsed::new(&input);
         answers.count_all(&rehearsed);
         match rehearsed.outcome {

@@ -60,12 +60,15 @@ fn call(
 ) -> Result<(), String> {
     let mut state = Lent::random(random, state_length);
     let mut out = Lent::random(random, room);
-    let (mut state_after, mut out_after, mut length) = (state.clone(), out.clone(), 0);
-    if state_length == LENGTH {
+    let (mut state_after, mut out_after) = (state.clone(), out.clone());
+    // 14 comes after what is refused of the input.
+    let unfit = state_length != LENGTH && expected.state.is_some();
+    let report = if unfit { b"refused 14\n" } else { expected.report.as_slice() };
+    if !unfit {
         expected.state.iter().for_each(|bytes| state_after.write(bytes));
-        out_after.write(&expected.report);
-        length = expected.report.len();
     }
+    out_after.write(report);
+    let length = report.len();
     let answer = (engine.rehearse)(input, state.part(), out.part());
     let place = |x: &Lent, y: &Lent| (0..x.0.len()).find(|at| x.0[*at] != y.0[*at]);
     if answer != length {

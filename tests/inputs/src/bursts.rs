@@ -167,8 +167,7 @@ impl Bursts<'_, '_> {
 
     /// Databases arrive late, and the peers are asked for shares once more.
     fn late_databases(&mut self) {
-        let item = self.item();
-        let period = self.next_to_back();
+        let (item, period) = (self.item(), self.next_to_back());
         let round = self.fallback(period);
         self.deliver(round);
         self.shares(item, period);
@@ -212,10 +211,9 @@ impl Bursts<'_, '_> {
     fn outage(&mut self) {
         let peer = 1 + self.below(self.making.table.n);
         self.deliver(vec![Step::Down { peer }]);
-        if self.chance(50) {
-            self.offer();
-        } else {
-            self.commit();
+        match self.chance(50) {
+            true => self.offer(),
+            false => self.commit(),
         }
         self.deliver(vec![Step::Up { peer }]);
     }

@@ -7,7 +7,7 @@ use reference::state::{Entry, State};
 use reference::table::Table;
 
 /// How often each op is chosen: as often as it is here.
-const OPS: [u8; 38] = [
+const OPS: &[u8] = &[
     1, 1, 1, 2, 2, 2, 3, 3, 3, 4, 4, 4, 4, 5, 5, 5, 6, 6, 7, 8, 8, 9, 9, 10, 10, 10, 11, 11, 12,
     12, 13, 14, 15, 16, 17, 18, 18, 18,
 ];
@@ -27,7 +27,7 @@ pub fn random_steps(random: &mut Random, table: &Table, state: &State) -> Vec<Ve
     let choice = random.below(100);
     let step = match choice {
         0..=12 => uniform(random, table),
-        _ => likely(random, table, state).to_vec(),
+        _ => likely(random, table, state),
     };
     if choice % 20 == 5 {
         vec![malformed(random, step)]
@@ -82,6 +82,11 @@ fn unused(op: u8) -> Vec<usize> {
 /// Any op, with its fields anywhere in range or one beyond.
 pub fn uniform(random: &mut Random, table: &Table) -> Vec<u8> {
     let op = random.between(1, last_op() as usize) as u8;
+    uniform_of(random, table, op)
+}
+
+/// A step of the op, with its fields anywhere in range or one beyond.
+fn uniform_of(random: &mut Random, table: &Table, op: u8) -> Vec<u8> {
     let ends = [table.n + 1, table.n + 1, table.periods, table.m()];
     let mut step = vec![op];
     for (named, end) in fields(op).into_iter().zip(ends) {
@@ -94,14 +99,14 @@ pub fn uniform(random: &mut Random, table: &Table) -> Vec<u8> {
 }
 
 /// A step with fields that the state makes likely to be taken.
-fn likely(random: &mut Random, table: &Table, state: &State) -> [u8; 13] {
+fn likely(random: &mut Random, table: &Table, state: &State) -> Vec<u8> {
     let op = OPS[random.below(OPS.len())];
     let peer = random.pick(table.honest.iter().copied()).unwrap_or(1);
     let other = random.pick(table.honest.iter().copied()).unwrap_or(1);
     let (up_to, posted) = (state.peer(peer).p, random.pick(state.posted.iter().copied()));
     let item = posted.unwrap_or(0);
     let closed = random.below(up_to);
-    write_step(match op {
+    let step = match op {
         1 => Step::Post { item: random.below(table.m()) },
         2 => Step::Hand { peer, item },
         3 => {
@@ -130,11 +135,13 @@ fn likely(random: &mut Random, table: &Table, state: &State) -> [u8; 13] {
         12 => Step::Publish { entry: pick_backing(random, state) },
         13..=16 => false_step(random, table, state, op, item),
         17 => Step::Down { peer },
-        _ => {
+        18 => {
             let down = table.honest.iter().filter(|j| !state.peer(**j).up);
             Step::Up { peer: random.pick(down).copied().unwrap_or(peer) }
         }
-    })
+        _ => return uniform_of(random, table, op),
+    };
+    write_step(step).to_vec()
 }
 
 /// The number of a hash entry; mostly one that helps the peer to back.

@@ -8,12 +8,9 @@ const MOST_INPUT: usize = 65_536;
 const STEP: usize = 13;
 
 /// Writes the report and answers its length: as many bytes as there is room
-/// for are written. The state holds what the steps led to.
-/// With a state of a wrong length nothing is done, and the length is 0.
+/// for are written. The state holds what the steps led to; what is refused,
+/// the state's length too, leaves it as it was.
 pub fn rehearse(input: &[u8], state: &mut [u8], out: &mut [u8]) -> usize {
-    if state.len() != SIZE {
-        return 0;
-    }
     let mut lines = Lines { out, length: 0 };
     match Run::over(input, state) {
         Ok((mut run, steps)) => run.report(&mut lines, steps),
@@ -39,6 +36,9 @@ impl<'a> Run<'a> {
             return Err(15);
         }
         let (table, end) = Table::front(input)?;
+        if state.len() != SIZE {
+            return Err(14);
+        }
         state.fill(0);
         let clashes = table.all_clashes();
         Ok((Run { table, clashes, state: State::over(state) }, &input[end..]))

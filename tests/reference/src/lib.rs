@@ -8,10 +8,12 @@
 //! - `state`: what is held outside and by each peer
 //! - `form`: 13 bytes as a step, or 5
 //! - `refusals`: the refusals that several ops share
-//! - `step`: the refusals of each op in their order, and its effect
+//! - `step`: the refusals of each op in their order, and its effect; those of a
+//!   dishonest peer stand in `false_steps`
 //! - `report`: the rehearsal, from input bytes to output bytes
 //! - `ideal`: the ideal board
 
+mod false_steps;
 pub mod form;
 pub mod ideal;
 mod refusals;

@@ -3,9 +3,10 @@
 //! An effect that is there already changes nothing, since all of them join
 //! sets; the bag sees to that itself.
 
+use crate::false_steps::*;
 use crate::form::{read_step, Step};
 use crate::refusals::*;
-use crate::state::{Board, Entry, State};
+use crate::state::{Entry, State};
 use crate::table::Table;
 use crate::Refusal;
 use std::collections::BTreeSet;
@@ -50,7 +51,7 @@ fn run(table: &Table, state: &mut State, step: Step) -> Done {
     }
 }
 
-// The ops, in document 01's order.
+// The ops, in document 01's order; 13 to 16 are in `false_steps`.
 
 /// 1 post.
 fn post(table: &Table, state: &mut State, item: usize) -> Done {
@@ -229,65 +230,6 @@ fn publish(table: &Table, state: &mut State, entry: usize) -> Done {
     }
     need_threshold(table, signers.len())?;
     state.enter(Entry::Board { period, board })
-}
-
-/// 13 false signature: a dishonest peer's, over a posted item.
-fn false_signature(
-    table: &Table,
-    state: &mut State,
-    peer: usize,
-    period: usize,
-    item: usize,
-) -> Done {
-    judge_false(table, state, peer, period, item)?;
-    state.signatures.insert((peer, period, item));
-    Ok(())
-}
-
-/// 14 false share: a dishonest peer's, over a posted item.
-fn false_share(table: &Table, state: &mut State, peer: usize, period: usize, item: usize) -> Done {
-    judge_false(table, state, peer, period, item)?;
-    state.shares.insert((peer, period, item));
-    Ok(())
-}
-
-/// The refusals of 13 and 14.
-fn judge_false(table: &Table, state: &State, peer: usize, period: usize, item: usize) -> Done {
-    name_peer(table, peer)?;
-    name_period(table, period)?;
-    name_item(table, item)?;
-    need_dishonest(table, peer)?;
-    need_posted(state, item)
-}
-
-/// 15 false hash: a dishonest peer's, over posted items only.
-fn false_hash(table: &Table, state: &mut State, peer: usize, period: usize, bits: u64) -> Done {
-    let board = judge_false_board(table, state, peer, period, bits)?;
-    state.enter(Entry::Hash { signer: peer, period, board })
-}
-
-/// 16 false backing: a dishonest peer's, over posted items only.
-fn false_backing(table: &Table, state: &mut State, peer: usize, period: usize, bits: u64) -> Done {
-    let board = judge_false_board(table, state, peer, period, bits)?;
-    state.enter(Entry::Backing { signer: peer, period, board })
-}
-
-/// The refusals of 15 and 16, up to 10. Else the board.
-fn judge_false_board(
-    table: &Table,
-    state: &State,
-    peer: usize,
-    period: usize,
-    bits: u64,
-) -> Result<Board, Refusal> {
-    name_peer(table, peer)?;
-    name_period(table, period)?;
-    let board = name_board(table, bits)?;
-    need_dishonest(table, peer)?;
-    for item in &board {
-        need_posted(state, *item)?;
-    }
-    Ok(board)
 }
 
 /// 17 down.

@@ -22,8 +22,8 @@ pub enum Field {
 
 use Field::{Board, Entry, Item, Other, Peer, Period};
 
-/// The ops 1 to 18: the name, and the fields in the order written.
-const OPS: [(&str, &[Field]); 18] = [
+/// The ops from 1 on: the name, and the fields in the order written.
+const OPS: &[(&str, &[Field])] = &[
     ("post", &[Item]),
     ("hand", &[Peer, Item]),
     ("sign", &[Peer, Item]),

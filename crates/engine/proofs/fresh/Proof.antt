@@ -4,20 +4,11 @@ use Rattle.engine.proofs.Calls.{fresh-table-refused, fresh-length-refus
 use Rattle.engine.proofs.fresh.Statement.{statement}
 use Rattle.engine.proofs.fresh.Tie as tie
 
-check-table-requires : tie.Need-check-table-requires
-check-table-requires c κs = search needs
-
 returns : tie.Need-returns
 returns c = fresh-table-refused _ (c .before .check-table .ensures) (c .if1 .taken) _
 
 returns-2 : tie.Need-returns-2
 returns-2 c = fresh-length-refused _ (c .before .before .check-table .ensures) (c .before .if1 .left) _ (c .if2 .taken)
-
-clear-requires : tie.Need-clear-requires
-clear-requires c κs = search needs
-
-same-length : tie.Need-same-length
-same-length c = search needs
 
 returns-3 : tie.Need-returns-3
 returns-3 c =
@@ -26,6 +17,4 @@ returns-3 c =
     fresh-made _ (table .before .check-table .ensures) (table .if1 .left) _ _ (length .if2 .left) (c .before .before .clear .ensures)
 
 pub fresh-spec : {M : Type 1} → statement M
-fresh-spec =
-    tie.close
-    (tie.spec check-table-requires returns returns-2 clear-requires same-length returns-3)
+fresh-spec = tie.close (tie.spec (λ c κs. search needs) returns returns-2 (λ c κs. search needs) (λ c. search needs) returns-3)

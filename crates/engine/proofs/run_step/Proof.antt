@@ -4,23 +4,11 @@ use borrow.Author.Needs.{needs}
 use Rattle.engine.proofs.run_step.Statement.{statement}
 use Rattle.engine.proofs.run_step.Tie as tie
 
-read-step-requires : tie.Need-read-step-requires
-read-step-requires c κs = search needs
-
-enum-known-st : tie.Need-enum-known-st
-enum-known-st c = search needs
-
 advance-requires : tie.Need-advance-requires
 advance-requires c κs =
     let reading = c .before .before .before .before in
     let given = reading .before .before .before .before .before .pre in
     (given .1, items-read (given .0), given .0 .clashes)
-
-enum-told : tie.Need-enum-told
-enum-told c = search needs
-
-same-length : tie.Need-same-length
-same-length c = search needs
 
 returns : tie.Need-returns
 returns c =
@@ -40,10 +28,10 @@ pub run-step-spec : {M : Type 1} → statement M
 run-step-spec =
     tie.close
     (tie.spec
-    read-step-requires
-    enum-known-st
+    (λ c κs. search needs)
+    (λ c. search needs)
     advance-requires
-    enum-told
-    same-length
+    (λ c. search needs)
+    (λ c. search needs)
     returns
     returns-2)

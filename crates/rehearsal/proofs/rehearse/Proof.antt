@@ -6,26 +6,11 @@ use Rattle.rehearsal.proofs.Playing.{refused, reports}
 use Rattle.rehearsal.proofs.rehearse.Statement.{statement}
 use Rattle.rehearsal.proofs.rehearse.Tie as tie
 
-check-lent-requires : tie.Need-check-lent-requires
-check-lent-requires c κs = search needs
-
-put-refused-requires : tie.Need-put-refused-requires
-put-refused-requires c κs = search needs
-
-same-length : tie.Need-same-length
-same-length c = search needs
-
-same-length-2 : tie.Need-same-length-2
-same-length-2 c = search needs
-
 returns : tie.Need-returns
 returns c =
     let line = c .before .before in
     let judged = line .before .before .before in
     refused _ _ _ (judged .check-lent .ensures) (line .before .before .if1 .taken) (line .put-refused .ensures) refl
-
-table-in-requires : tie.Need-table-in-requires
-table-in-requires c κs = search needs
 
 play-requires : tie.Need-play-requires
 play-requires c κs =
@@ -33,12 +18,6 @@ play-requires c κs =
     let judged = table .before .before in
     let passed = both-passed _ _ (sym (judged .check-lent .ensures) ∙ table .before .if1 .left) in
     (taken _ (passed .0), table .table-in .ensures, passed .1)
-
-same-length-3 : tie.Need-same-length-3
-same-length-3 c = search needs
-
-same-length-4 : tie.Need-same-length-4
-same-length-4 c = search needs
 
 returns-2 : tie.Need-returns-2
 returns-2 c =
@@ -50,13 +29,13 @@ pub rehearse-spec : {M : Type 1} → statement M
 rehearse-spec =
     tie.close
     (tie.spec
-    check-lent-requires
-    put-refused-requires
-    same-length
-    same-length-2
+    (λ c κs. search needs)
+    (λ c κs. search needs)
+    (λ c. search needs)
+    (λ c. search needs)
     returns
-    table-in-requires
+    (λ c κs. search needs)
     play-requires
-    same-length-3
-    same-length-4
+    (λ c. search needs)
+    (λ c. search needs)
     returns-2)

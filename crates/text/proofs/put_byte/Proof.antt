@@ -4,20 +4,8 @@ use borrow.Author.Needs.{needs}
 use Rattle.text.proofs.put_byte.Statement.{statement}
 use Rattle.text.proofs.put_byte.Tie as tie
 
-slice-write-out : tie.Need-slice-write-out
-slice-write-out c = search needs
-
-add-result : tie.Need-add-result
-add-result c = search needs
-
-same-length : tie.Need-same-length
-same-length c = search needs
-
 returns : tie.Need-returns
 returns c = byte-in _ _ _
-
-wrapping-add-usize-requires : tie.Need-wrapping-add-usize-requires
-wrapping-add-usize-requires c κs = search needs
 
 returns-2 : tie.Need-returns-2
 returns-2 c = byte-out _ _ _ _ (c .before .if1 .left) (c .wrapping-add-usize .ensures)
@@ -25,4 +13,4 @@ returns-2 c = byte-out _ _ _ _ (c .before .if1 .left) (c .wrapping-add-usize .en
 pub put-byte-spec : {M : Type 1} → statement M
 put-byte-spec =
     tie.close
-    (tie.spec slice-write-out add-result same-length returns wrapping-add-usize-requires returns-2)
+    (tie.spec (λ c. search needs) (λ c. search needs) (λ c. search needs) returns (λ c κs. search needs) returns-2)

@@ -9,7 +9,7 @@
 
 pub mod input;
 mod news;
-pub mod phrases;
+pub(crate) mod phrases;
 mod quorum;
 pub mod refusals;
 mod short;

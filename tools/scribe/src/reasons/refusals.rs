@@ -5,7 +5,7 @@ use super::phrases::{count, entry, item, item_list};
 use super::short::short;
 use super::unknown::unknown;
 use crate::names::Bounds;
-use crate::steps::{items_of, last_op, op, unused, STEP_LENGTH};
+use crate::steps::{items_of, last_op, op, unused, value, Field, STEP_LENGTH};
 use reference::form::{read_step, Step};
 use reference::state::{Entry, State, BAG_SIZE};
 use reference::table::Table;
@@ -15,22 +15,19 @@ pub type Reason = Option<String>;
 
 /// The fact behind the refusal of these bytes.
 pub fn why(table: &Table, state: &State, bytes: &[u8], refusal: Refusal) -> Reason {
-    if refusal == Refusal::Form {
-        return form(bytes);
-    }
-    let step = read_step(bytes).ok()?;
+    let step = || read_step(bytes).ok();
     match refusal {
+        Refusal::Form => form(bytes),
         Refusal::Name => name(table, bytes),
-        Refusal::Role => role(table, step),
-        Refusal::Down => down(state, step),
-        Refusal::Period => period(table, state, step),
-        Refusal::Unknown => unknown(state, step),
-        Refusal::Clash => clash(table, state, step),
-        Refusal::Short => short(table, state, step),
-        Refusal::Full => full(table, state, step),
+        Refusal::Role => role(table, bytes, step()?),
+        Refusal::Down => down(state, bytes, step()?),
+        Refusal::Period => period(table, state, step()?),
+        Refusal::Unknown => unknown(state, step()?),
+        Refusal::Clash => clash(table, state, step()?),
+        Refusal::Short => short(table, state, step()?),
+        Refusal::Full => full(table, state, step()?),
         // These are of tables and inputs; `input` tells of them.
         Refusal::Header | Refusal::Pairs | Refusal::Item | Refusal::Twin | Refusal::Input => None,
-        Refusal::Form => None,
     }
 }
 
@@ -57,38 +54,22 @@ fn name(table: &Table, bytes: &[u8]) -> Reason {
     (!strangers.is_empty()).then(|| strangers.join("; "))
 }
 
-/// The peer whose step it is: none for a post, a receipt and a publish.
-fn doer(step: Step) -> Option<usize> {
+/// The peers that a step needs: whose step it is, and for a fetch the other.
+fn doers(bytes: &[u8], step: Step) -> Vec<usize> {
     match step {
-        Step::Post { .. } | Step::Receipt { .. } | Step::Publish { .. } => None,
-        Step::Hand { peer, .. }
-        | Step::Sign { peer, .. }
-        | Step::Take { peer, .. }
-        | Step::Share { peer, .. }
-        | Step::Close { peer }
-        | Step::Fetch { peer, .. }
-        | Step::Hash { peer, .. }
-        | Step::Hear { peer, .. }
-        | Step::Back { peer }
-        | Step::FalseSignature { peer, .. }
-        | Step::FalseShare { peer, .. }
-        | Step::FalseHash { peer, .. }
-        | Step::FalseBacking { peer, .. }
-        | Step::Down { peer }
-        | Step::Up { peer } => Some(peer),
+        Step::Fetch { peer, other, .. } => vec![peer, other],
+        _ => doer(bytes).into_iter().collect(),
     }
 }
 
-/// The peers that a step needs: whose step it is, and for a fetch the other.
-fn doers(step: Step) -> Vec<usize> {
-    match step {
-        Step::Fetch { peer, other, .. } => vec![peer, other],
-        _ => doer(step).into_iter().collect(),
-    }
+/// The peer whose step it is: none for a post, a receipt and a publish.
+fn doer(bytes: &[u8]) -> Option<usize> {
+    let (_, uses) = op(bytes[0])?;
+    uses.contains(&Field::Peer).then(|| value(bytes, Field::Peer) as usize)
 }
 
 /// 7: a false step of an honest peer, or another step of a dishonest one.
-fn role(table: &Table, step: Step) -> Reason {
+fn role(table: &Table, bytes: &[u8], step: Step) -> Reason {
     match step {
         Step::FalseSignature { peer, .. }
         | Step::FalseShare { peer, .. }
@@ -98,18 +79,18 @@ fn role(table: &Table, step: Step) -> Reason {
             table.is_honest(peer).then(reason)
         }
         _ => {
-            let peer = doers(step).into_iter().find(|peer| !table.is_honest(*peer))?;
+            let peer = doers(bytes, step).into_iter().find(|peer| !table.is_honest(*peer))?;
             Some(format!("peer {peer} is dishonest, but an honest peer is needed"))
         }
     }
 }
 
 /// 8: the peer, or for a fetch the other; but a down peer may go down or up.
-fn down(state: &State, step: Step) -> Reason {
+fn down(state: &State, bytes: &[u8], step: Step) -> Reason {
     if matches!(step, Step::Down { .. } | Step::Up { .. }) {
         return None;
     }
-    let peer = doers(step).into_iter().find(|peer| !state.peer(*peer).up)?;
+    let peer = doers(bytes, step).into_iter().find(|peer| !state.peer(*peer).up)?;
     Some(format!("peer {peer} is down"))
 }
 

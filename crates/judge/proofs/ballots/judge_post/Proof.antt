@@ -4,18 +4,11 @@ use Rattle.judge.proofs.Row.{row, asked}
 use Rattle.judge.proofs.ballots.judge_post.Statement.{statement}
 use Rattle.judge.proofs.ballots.judge_post.Tie as tie
 
-returns : tie.Need-returns
-unfolding answer rule
-returns c = search row depth 5
-
-returns-2 : tie.Need-returns-2
-unfolding answer rule
-returns-2 c = search row depth 5
-
 pub judge-post-spec : {M : Type 1} → statement M
+unfolding answer rule
 judge-post-spec =
     tie.close
     (tie.spec
     (λ c κs. search asked)
-    returns
-    returns-2)
+    (λ c. search row depth 5)
+    (λ c. search row depth 5))

@@ -4,36 +4,17 @@ use Rattle.judge.proofs.Row.{row, asked}
 use Rattle.judge.proofs.closing.judge_close.Statement.{statement}
 use Rattle.judge.proofs.closing.judge_close.Tie as tie
 
-returns : tie.Need-returns
-unfolding answer rule
-returns c = search row depth 8
-
-returns-2 : tie.Need-returns-2
-unfolding answer rule
-returns-2 c = search row depth 8
-
-returns-3 : tie.Need-returns-3
-unfolding answer rule
-returns-3 c = search row depth 8
-
-returns-4 : tie.Need-returns-4
-unfolding answer rule
-returns-4 c = search row depth 8
-
-returns-5 : tie.Need-returns-5
-unfolding answer rule
-returns-5 c = search row depth 8
-
 pub judge-close-spec : {M : Type 1} → statement M
+unfolding answer rule
 judge-close-spec =
     tie.close
     (tie.spec
     (λ c κs. search asked)
-    returns
+    (λ c. search row depth 8)
     (λ c κs. search asked)
-    returns-2
+    (λ c. search row depth 8)
     (λ c κs. search asked)
-    returns-3
+    (λ c. search row depth 8)
     (λ c κs. search asked)
-    returns-4
-    returns-5)
+    (λ c. search row depth 8)
+    (λ c. search row depth 8))

@@ -4,30 +4,15 @@ use Rattle.judge.proofs.Row.{row, asked}
 use Rattle.judge.proofs.closing.judge_publish.Statement.{statement}
 use Rattle.judge.proofs.closing.judge_publish.Tie as tie
 
-returns : tie.Need-returns
-unfolding answer rule
-returns c = search row depth 7
-
-returns-2 : tie.Need-returns-2
-unfolding answer rule
-returns-2 c = search row depth 7
-
-returns-3 : tie.Need-returns-3
-unfolding answer rule
-returns-3 c = search row depth 7
-
-returns-4 : tie.Need-returns-4
-unfolding answer rule
-returns-4 c = search row depth 7
-
 pub judge-publish-spec : {M : Type 1} → statement M
+unfolding answer rule
 judge-publish-spec =
     tie.close
     (tie.spec
     (λ c κs. search asked)
-    returns
+    (λ c. search row depth 7)
     (λ c κs. search asked)
-    returns-2
+    (λ c. search row depth 7)
     (λ c κs. search asked)
-    returns-3
-    returns-4)
+    (λ c. search row depth 7)
+    (λ c. search row depth 7))

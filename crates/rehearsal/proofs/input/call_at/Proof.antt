@@ -4,18 +4,9 @@ use borrow.Author.Needs.{needs}
 use Rattle.rehearsal.proofs.input.call_at.Statement.{statement}
 use Rattle.rehearsal.proofs.input.call_at.Tie as tie
 
-mul-part-of : tie.Need-mul-part-of
-mul-part-of c = search needs
-
-add-part-of : tie.Need-add-part-of
-add-part-of c = search needs
-
-part-of-requires : tie.Need-part-of-requires
-part-of-requires c κs = search needs
-
 returns : tie.Need-returns
 unfolding callAt
 returns c = rw (c .before .before .pre .0) at (c .part-of .ensures)
 
 pub call-at-spec : {M : Type 1} → statement M
-call-at-spec = tie.close (tie.spec mul-part-of add-part-of part-of-requires returns)
+call-at-spec = tie.close (tie.spec (λ c. search needs) (λ c. search needs) (λ c κs. search needs) returns)

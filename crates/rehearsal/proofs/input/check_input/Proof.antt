@@ -13,17 +13,11 @@ returns : tie.Need-returns
 unfolding inputRefusal
 returns c = stop 15 _ (sym (lt-ltb _ _ (c .if1 .taken))) refl
 
-header-ok-requires : tie.Need-header-ok-requires
-header-ok-requires c κs = search needs
-
 returns-2 : tie.Need-returns-2
 unfolding inputRefusal
 returns-2 c =
     pass 15 1 _ (sym (le-ltb _ _ (c .before .before .if1 .left))) refl
     (stop 1 _ (ap not (c .before .header-ok .ensures)) (c .if2 .taken))
-
-table-there-requires : tie.Need-table-there-requires
-table-there-requires c κs = search needs
 
 returns-3 : tie.Need-returns-3
 unfolding inputRefusal
@@ -32,12 +26,6 @@ returns-3 c =
     pass 15 2 _ (sym (le-ltb _ _ (header .before .before .if1 .left))) refl
     (pass 1 2 _ (ap not (header .before .header-ok .ensures)) (header .if2 .left)
     (stop 2 _ (ap not (c .before .table-there .ensures)) (c .if3 .taken)))
-
-table-in-requires : tie.Need-table-in-requires
-table-in-requires c κs = search needs
-
-check-table-requires : tie.Need-check-table-requires
-check-table-requires c κs = search needs
 
 returns-4 : tie.Need-returns-4
 unfolding inputRefusal refusal
@@ -54,10 +42,10 @@ check-input-spec =
     tie.close
     (tie.spec
     returns
-    header-ok-requires
+    (λ c κs. search needs)
     returns-2
-    table-there-requires
+    (λ c κs. search needs)
     returns-3
-    table-in-requires
-    check-table-requires
+    (λ c κs. search needs)
+    (λ c κs. search needs)
     returns-4)

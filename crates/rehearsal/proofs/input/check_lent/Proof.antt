@@ -4,9 +4,6 @@ use Rattle.rehearsal.proofs.Taking.{input-refused, length-refused, none
 use Rattle.rehearsal.proofs.input.check_lent.Statement.{statement}
 use Rattle.rehearsal.proofs.input.check_lent.Tie as tie
 
-check-input-requires : tie.Need-check-input-requires
-check-input-requires c κs = search needs
-
 returns : tie.Need-returns
 returns c = search input-refused
 
@@ -17,4 +14,4 @@ returns-3 : tie.Need-returns-3
 returns-3 c = search none-refused
 
 pub check-lent-spec : {M : Type 1} → statement M
-check-lent-spec = tie.close (tie.spec check-input-requires returns returns-2 returns-3)
+check-lent-spec = tie.close (tie.spec (λ c κs. search needs) returns returns-2 returns-3)

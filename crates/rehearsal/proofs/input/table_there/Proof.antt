@@ -5,21 +5,9 @@ use borrow.Author.Needs.{needs}
 use Rattle.rehearsal.proofs.input.table_there.Statement.{statement}
 use Rattle.rehearsal.proofs.input.table_there.Tie as tie
 
-header-size-requires : tie.Need-header-size-requires
-header-size-requires c κs = search needs
-
-items-requires : tie.Need-items-requires
-items-requires c κs = search needs
-
-pairs-fit-requires : tie.Need-pairs-fit-requires
-pairs-fit-requires c κs = search needs
-
 returns : tie.Need-returns
 unfolding tableThere
 returns c = fails _ (simp (c .before .before .items .ensures, c .before .before .before .header-size .ensures) at (c .before .pairs-fit .ensures)) (c .if1 .taken)
-
-table-end-requires : tie.Need-table-end-requires
-table-end-requires c κs = search needs
 
 returns-2 : tie.Need-returns-2
 unfolding tableThere
@@ -32,9 +20,9 @@ pub table-there-spec : {M : Type 1} → statement M
 table-there-spec =
     tie.close
     (tie.spec
-    header-size-requires
-    items-requires
-    pairs-fit-requires
+    (λ c κs. search needs)
+    (λ c κs. search needs)
+    (λ c κs. search needs)
     returns
-    table-end-requires
+    (λ c κs. search needs)
     returns-2)

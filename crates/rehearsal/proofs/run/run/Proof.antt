@@ -12,32 +12,17 @@ Inv-loop input table h rows s₀ out₀ at start n to₀ k₀ s out to k = (k �
 abbrev μ-loop : tie.MeasureT-loop
 μ-loop input table h rows s₀ out₀ at start n to₀ k₀ s out to k = n - k
 
-table-end-requires : tie.Need-table-end-requires Inv-loop μ-loop
-table-end-requires c κs = search needs
-
-step-count-requires : tie.Need-step-count-requires Inv-loop μ-loop
-step-count-requires c κs = search needs
-
 loop-holds : tie.Need-loop-holds Inv-loop μ-loop
 loop-holds c = (search needs, search none-ran)
 
 run-one-requires : tie.Need-run-one-requires Inv-loop μ-loop
 run-one-requires c κs = search few-steps
 
-add-k : tie.Need-add-k Inv-loop μ-loop
-add-k c = search needs
-
-loop-less : tie.Need-loop-less Inv-loop μ-loop
-loop-less c = search needs
-
 loop-again : tie.Need-loop-again Inv-loop μ-loop
 loop-again c = (search needs, search more-ran)
 
 same-length : tie.Need-same-length Inv-loop μ-loop
 same-length c = search same-long
-
-same-length-2 : tie.Need-same-length-2 Inv-loop μ-loop
-same-length-2 c = search needs
 
 returns : tie.Need-returns Inv-loop μ-loop
 returns c = search all-ran
@@ -48,13 +33,13 @@ run-spec =
     (tie.spec
     Inv-loop
     μ-loop
-    table-end-requires
-    step-count-requires
+    (λ c κs. search needs)
+    (λ c κs. search needs)
     loop-holds
     run-one-requires
-    add-k
-    loop-less
+    (λ c. search needs)
+    (λ c. search needs)
     loop-again
     same-length
-    same-length-2
+    (λ c. search needs)
     returns)

@@ -4,26 +4,11 @@ use borrow.Author.Needs.{needs}
 use Rattle.rehearsal.proofs.run.tell.Statement.{statement}
 use Rattle.rehearsal.proofs.run.tell.Tie as tie
 
-honest-count-requires : tie.Need-honest-count-requires
-honest-count-requires c κs = search needs
-
-put-head-requires : tie.Need-put-head-requires
-put-head-requires c κs = search needs
-
-run-requires : tie.Need-run-requires
-run-requires c κs = search needs
-
 put-state-requires : tie.Need-put-state-requires
 put-state-requires c κs =
     let steps = c .before .before .before .before .before .before in
     let given = steps .before .before .before .before .before .before .before .before .before .before .before .before .before .pre in
     showable (given .0) (steps .run .ensures)
-
-same-length : tie.Need-same-length
-same-length c = search needs
-
-same-length-2 : tie.Need-same-length-2
-same-length-2 c = search needs
 
 returns : tie.Need-returns
 returns c =
@@ -37,10 +22,10 @@ pub tell-spec : {M : Type 1} → statement M
 tell-spec =
     tie.close
     (tie.spec
-    honest-count-requires
-    put-head-requires
-    run-requires
+    (λ c κs. search needs)
+    (λ c κs. search needs)
+    (λ c κs. search needs)
     put-state-requires
-    same-length
-    same-length-2
+    (λ c. search needs)
+    (λ c. search needs)
     returns)

@@ -1,0 +1,47 @@
+-- Byte tables that just meet demand 3's premise: computed over all numbers of peers at once.
+use Prim.Native.Nat.{ℕ, _+_, _-_, _≤_}
+use native.Mathlib.Omega.{arith}
+use mathlib.Core.Bool.{Bool, true, _&&_}
+use mathlib.Core.Path.{_≡_, refl, subst}
+use lib.Dec.{eqb}
+use borrow.Author.Tests.{eqb-true}
+use Rattle.base.specs.Refusals.{first}
+use Rattle.base.specs.Below.{every}
+use Rattle.base.specs.Bits.{bit, member}
+use Rattle.base.specs.Weight.{weight}
+use Rattle.base.specs.Bytes.{numberAt, part, sameBytes}
+use Rattle.base.proofs.Below.{every-at}
+use Rattle.base.proofs.Truth.{and-l, and-r}
+use Rattle.header.specs.Header.{headOf, thresholdOf, honestCount}
+use Rattle.header.specs.Header.{headerSize, fieldOf, leastThreshold, thresholdOk, fieldsOk, headerOk}
+use Rattle.pairs.specs.Pairs.{endBefore, startsAtEnd, pairsFit, pairsOk}
+use Rattle.ballot.specs.Item.{readKind, readItem}
+use Rattle.ballot.specs.Table.{tablePairsOk, itemBelow, itemOk, itemsOk, differ, newAt, noTwins, refusal}
+use Rattle.clash.specs.Clash.{clash, clashIn}
+use Rattle.edges.specs.Premise.{barelyBytes, BarelyBytes}
+
+-- what the bytes of n peers are to have, as tests
+abbrev taken : ℕ → Bool
+taken n = eqb (refusal (barelyBytes n)) 0
+
+abbrev just : ℕ → Bool
+just n = eqb (honestCount (headOf (barelyBytes n))) (thresholdOf (barelyBytes n))
+
+abbrev clashes : ℕ → Bool
+clashes n = clashIn (barelyBytes n) 0 1
+
+all-good : every 16 (λ k. taken (k + 1) && (just (k + 1) && clashes (k + 1))) ≡ true
+unfolding refusal headerOk headerSize fieldOf fieldsOk thresholdOk leastThreshold tablePairsOk pairsOk pairsFit startsAtEnd endBefore
+    itemBelow itemsOk itemOk noTwins newAt differ clashIn clash readItem readKind first every numberAt part sameBytes bit member weight
+all-good = refl
+
+pub met-by-bytes : (n : ℕ) → 1 ≤ n → n ≤ 16 → BarelyBytes n
+met-by-bytes n l m =
+    let found = every-at (λ k. taken (k + 1) && (just (k + 1) && clashes (k + 1))) 16 all-good (n - 1) (omega arith) in
+    let ok = subst (λ (k : ℕ). taken k && (just k && clashes k) ≡ true) {x = n - 1 + 1} {y = n} (omega arith) found in
+    let rest = and-r (taken n) _ ok in
+    record {
+      taken = eqb-true (refusal (barelyBytes n)) 0 (and-l _ (just n && clashes n) ok);
+      just-enough = eqb-true (honestCount (headOf (barelyBytes n))) (thresholdOf (barelyBytes n)) (and-l _ (clashes n) rest);
+      some-clash = and-r (just n) _ rest;
+    }
