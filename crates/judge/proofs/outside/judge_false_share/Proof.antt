@@ -4,12 +4,9 @@ use Rattle.judge.proofs.Row.{asked}
 use Rattle.judge.proofs.outside.judge_false_share.Statement.{statement}
 use Rattle.judge.proofs.outside.judge_false_share.Tie as tie
 
-judge-false-signature-requires : tie.Need-judge-false-signature-requires
-judge-false-signature-requires c κs = search asked
-
 returns : tie.Need-returns
 unfolding answer rule
 returns c = c .judge-false-signature .ensures
 
 pub judge-false-share-spec : {M : Type 1} → statement M
-judge-false-share-spec = tie.close (tie.spec judge-false-signature-requires returns)
+judge-false-share-spec = tie.close (tie.spec (λ c κs. search asked) returns)

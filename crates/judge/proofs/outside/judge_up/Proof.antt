@@ -4,12 +4,9 @@ use Rattle.judge.proofs.Row.{asked}
 use Rattle.judge.proofs.outside.judge_up.Statement.{statement}
 use Rattle.judge.proofs.outside.judge_up.Tie as tie
 
-judge-down-requires : tie.Need-judge-down-requires
-judge-down-requires c κs = search asked
-
 returns : tie.Need-returns
 unfolding answer rule
 returns c = c .judge-down .ensures
 
 pub judge-up-spec : {M : Type 1} → statement M
-judge-up-spec = tie.close (tie.spec judge-down-requires returns)
+judge-up-spec = tie.close (tie.spec (λ c κs. search asked) returns)

@@ -7,9 +7,6 @@ use Rattle.steps.proofs.Did.{did-hand, still-canon}
 use Rattle.steps.proofs.ballots.step_hand.Statement.{statement}
 use Rattle.steps.proofs.ballots.step_hand.Tie as tie
 
-judge-hand-requires : tie.Need-judge-hand-requires
-judge-hand-requires c κs = search asked
-
 returns : tie.Need-returns
 returns c = search refused
 
@@ -26,7 +23,7 @@ pub step-hand-spec : {M : Type 1} → statement M
 step-hand-spec =
     tie.close
     (tie.spec
-    judge-hand-requires
+    (λ c κs. search asked)
     (λ c. search needs)
     returns
     current-of-requires

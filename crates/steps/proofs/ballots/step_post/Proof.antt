@@ -7,9 +7,6 @@ use Rattle.steps.proofs.Did.{did-post}
 use Rattle.steps.proofs.ballots.step_post.Statement.{statement}
 use Rattle.steps.proofs.ballots.step_post.Tie as tie
 
-judge-post-requires : tie.Need-judge-post-requires
-judge-post-requires c κs = search asked
-
 returns : tie.Need-returns
 returns c = search refused
 
@@ -23,7 +20,7 @@ pub step-post-spec : {M : Type 1} → statement M
 step-post-spec =
     tie.close
     (tie.spec
-    judge-post-requires
+    (λ c κs. search asked)
     (λ c. search needs)
     returns
     add-fact-requires

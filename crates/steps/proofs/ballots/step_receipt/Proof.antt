@@ -7,9 +7,6 @@ use Rattle.steps.proofs.Did.{did-receipt}
 use Rattle.steps.proofs.ballots.step_receipt.Statement.{statement}
 use Rattle.steps.proofs.ballots.step_receipt.Tie as tie
 
-judge-receipt-requires : tie.Need-judge-receipt-requires
-judge-receipt-requires c κs = search asked
-
 returns : tie.Need-returns
 returns c = search refused
 
@@ -23,7 +20,7 @@ pub step-receipt-spec : {M : Type 1} → statement M
 step-receipt-spec =
     tie.close
     (tie.spec
-    judge-receipt-requires
+    (λ c κs. search asked)
     (λ c. search needs)
     returns
     add-fact-requires

@@ -7,9 +7,6 @@ use Rattle.steps.proofs.Did.{did-share, still-canon}
 use Rattle.steps.proofs.ballots.step_share.Statement.{statement}
 use Rattle.steps.proofs.ballots.step_share.Tie as tie
 
-judge-share-requires : tie.Need-judge-share-requires
-judge-share-requires c κs = search asked
-
 returns : tie.Need-returns
 returns c = search refused
 
@@ -26,7 +23,7 @@ pub step-share-spec : {M : Type 1} → statement M
 step-share-spec =
     tie.close
     (tie.spec
-    judge-share-requires
+    (λ c κs. search asked)
     (λ c. search needs)
     returns
     current-of-requires

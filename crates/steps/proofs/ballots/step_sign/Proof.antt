@@ -7,9 +7,6 @@ use Rattle.steps.proofs.Did.{did-sign, still-canon}
 use Rattle.steps.proofs.ballots.step_sign.Statement.{statement}
 use Rattle.steps.proofs.ballots.step_sign.Tie as tie
 
-judge-sign-requires : tie.Need-judge-sign-requires
-judge-sign-requires c κs = search asked
-
 returns : tie.Need-returns
 returns c = search refused
 
@@ -29,7 +26,7 @@ pub step-sign-spec : {M : Type 1} → statement M
 step-sign-spec =
     tie.close
     (tie.spec
-    judge-sign-requires
+    (λ c κs. search asked)
     (λ c. search needs)
     returns
     current-of-requires

@@ -7,9 +7,6 @@ use Rattle.steps.proofs.Did.{did-take}
 use Rattle.steps.proofs.ballots.step_take.Statement.{statement}
 use Rattle.steps.proofs.ballots.step_take.Tie as tie
 
-judge-take-requires : tie.Need-judge-take-requires
-judge-take-requires c κs = search asked
-
 returns : tie.Need-returns
 returns c = search refused
 
@@ -23,7 +20,7 @@ pub step-take-spec : {M : Type 1} → statement M
 step-take-spec =
     tie.close
     (tie.spec
-    judge-take-requires
+    (λ c κs. search asked)
     (λ c. search needs)
     returns
     add-fact-requires

@@ -7,12 +7,6 @@ use Rattle.steps.proofs.Did.{did-back, still-canon}
 use Rattle.steps.proofs.closing.step_back.Statement.{statement}
 use Rattle.steps.proofs.closing.step_back.Tie as tie
 
-to-back-of-requires : tie.Need-to-back-of-requires
-to-back-of-requires c κs = search asked
-
-board-by-requires : tie.Need-board-by-requires
-board-by-requires c κs = search asked
-
 judge-back-requires : tie.Need-judge-back-requires
 judge-back-requires c κs =
     let ready = c .before .before .before .before .before .before .pre in
@@ -59,8 +53,8 @@ pub step-back-spec : {M : Type 1} → statement M
 step-back-spec =
     tie.close
     (tie.spec
-    to-back-of-requires
-    board-by-requires
+    (λ c κs. search asked)
+    (λ c κs. search asked)
     judge-back-requires
     (λ c. search needs)
     returns

@@ -7,9 +7,6 @@ use Rattle.steps.proofs.Did.{did-close}
 use Rattle.steps.proofs.closing.step_close.Statement.{statement}
 use Rattle.steps.proofs.closing.step_close.Tie as tie
 
-judge-close-requires : tie.Need-judge-close-requires
-judge-close-requires c κs = search asked
-
 returns : tie.Need-returns
 returns c = search refused
 
@@ -23,7 +20,7 @@ pub step-close-spec : {M : Type 1} → statement M
 step-close-spec =
     tie.close
     (tie.spec
-    judge-close-requires
+    (λ c κs. search asked)
     (λ c. search needs)
     returns
     raise-current-requires

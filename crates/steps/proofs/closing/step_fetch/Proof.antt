@@ -7,9 +7,6 @@ use Rattle.steps.proofs.Did.{did-fetch}
 use Rattle.steps.proofs.closing.step_fetch.Statement.{statement}
 use Rattle.steps.proofs.closing.step_fetch.Tie as tie
 
-judge-fetch-requires : tie.Need-judge-fetch-requires
-judge-fetch-requires c κs = search asked
-
 returns : tie.Need-returns
 returns c = search refused
 
@@ -23,7 +20,7 @@ pub step-fetch-spec : {M : Type 1} → statement M
 step-fetch-spec =
     tie.close
     (tie.spec
-    judge-fetch-requires
+    (λ c κs. search asked)
     (λ c. search needs)
     returns
     fetch-requires

@@ -7,9 +7,6 @@ use Rattle.steps.proofs.Did.{did-hear}
 use Rattle.steps.proofs.closing.step_hear.Statement.{statement}
 use Rattle.steps.proofs.closing.step_hear.Tie as tie
 
-judge-hear-requires : tie.Need-judge-hear-requires
-judge-hear-requires c κs = search asked
-
 returns : tie.Need-returns
 returns c = search refused
 
@@ -23,7 +20,7 @@ pub step-hear-spec : {M : Type 1} → statement M
 step-hear-spec =
     tie.close
     (tie.spec
-    judge-hear-requires
+    (λ c κs. search asked)
     (λ c. search needs)
     returns
     add-fact-requires

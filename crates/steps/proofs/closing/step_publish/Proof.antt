@@ -7,9 +7,6 @@ use Rattle.steps.proofs.Did.{did-publish, still-canon}
 use Rattle.steps.proofs.closing.step_publish.Statement.{statement}
 use Rattle.steps.proofs.closing.step_publish.Tie as tie
 
-judge-publish-requires : tie.Need-judge-publish-requires
-judge-publish-requires c κs = search asked
-
 returns : tie.Need-returns
 returns c = search refused
 
@@ -26,7 +23,7 @@ pub step-publish-spec : {M : Type 1} → statement M
 step-publish-spec =
     tie.close
     (tie.spec
-    judge-publish-requires
+    (λ c κs. search asked)
     (λ c. search needs)
     returns
     board-named-requires

@@ -7,12 +7,6 @@ use Rattle.steps.proofs.Did.{did-send-hash}
 use Rattle.steps.proofs.closing.step_send_hash.Statement.{statement}
 use Rattle.steps.proofs.closing.step_send_hash.Tie as tie
 
-board-by-requires : tie.Need-board-by-requires
-board-by-requires c κs = search asked
-
-judge-send-hash-requires : tie.Need-judge-send-hash-requires
-judge-send-hash-requires c κs = search asked
-
 returns : tie.Need-returns
 returns c = search refused
 
@@ -30,8 +24,8 @@ pub step-send-hash-spec : {M : Type 1} → statement M
 step-send-hash-spec =
     tie.close
     (tie.spec
-    board-by-requires
-    judge-send-hash-requires
+    (λ c κs. search asked)
+    (λ c κs. search asked)
     (λ c. search needs)
     returns
     enter-requires

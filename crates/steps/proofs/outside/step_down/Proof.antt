@@ -7,9 +7,6 @@ use Rattle.steps.proofs.Did.{did-down}
 use Rattle.steps.proofs.outside.step_down.Statement.{statement}
 use Rattle.steps.proofs.outside.step_down.Tie as tie
 
-judge-down-requires : tie.Need-judge-down-requires
-judge-down-requires c κs = search asked
-
 returns : tie.Need-returns
 returns c = search refused
 
@@ -23,7 +20,7 @@ pub step-down-spec : {M : Type 1} → statement M
 step-down-spec =
     tie.close
     (tie.spec
-    judge-down-requires
+    (λ c κs. search asked)
     (λ c. search needs)
     returns
     set-value-requires

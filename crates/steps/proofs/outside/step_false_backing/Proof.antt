@@ -7,9 +7,6 @@ use Rattle.steps.proofs.Did.{did-false-backing}
 use Rattle.steps.proofs.outside.step_false_backing.Statement.{statement}
 use Rattle.steps.proofs.outside.step_false_backing.Tie as tie
 
-judge-false-backing-requires : tie.Need-judge-false-backing-requires
-judge-false-backing-requires c κs = search asked
-
 returns : tie.Need-returns
 returns c = search refused
 
@@ -23,7 +20,7 @@ pub step-false-backing-spec : {M : Type 1} → statement M
 step-false-backing-spec =
     tie.close
     (tie.spec
-    judge-false-backing-requires
+    (λ c κs. search asked)
     (λ c. search needs)
     returns
     enter-requires

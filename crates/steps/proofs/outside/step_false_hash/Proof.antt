@@ -7,9 +7,6 @@ use Rattle.steps.proofs.Did.{did-false-hash}
 use Rattle.steps.proofs.outside.step_false_hash.Statement.{statement}
 use Rattle.steps.proofs.outside.step_false_hash.Tie as tie
 
-judge-false-hash-requires : tie.Need-judge-false-hash-requires
-judge-false-hash-requires c κs = search asked
-
 returns : tie.Need-returns
 returns c = search refused
 
@@ -23,7 +20,7 @@ pub step-false-hash-spec : {M : Type 1} → statement M
 step-false-hash-spec =
     tie.close
     (tie.spec
-    judge-false-hash-requires
+    (λ c κs. search asked)
     (λ c. search needs)
     returns
     enter-requires

@@ -7,9 +7,6 @@ use Rattle.steps.proofs.Did.{did-false-share}
 use Rattle.steps.proofs.outside.step_false_share.Statement.{statement}
 use Rattle.steps.proofs.outside.step_false_share.Tie as tie
 
-judge-false-share-requires : tie.Need-judge-false-share-requires
-judge-false-share-requires c κs = search asked
-
 returns : tie.Need-returns
 returns c = search refused
 
@@ -23,7 +20,7 @@ pub step-false-share-spec : {M : Type 1} → statement M
 step-false-share-spec =
     tie.close
     (tie.spec
-    judge-false-share-requires
+    (λ c κs. search asked)
     (λ c. search needs)
     returns
     add-fact-requires

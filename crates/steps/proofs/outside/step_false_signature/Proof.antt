@@ -7,9 +7,6 @@ use Rattle.steps.proofs.Did.{did-false-signature}
 use Rattle.steps.proofs.outside.step_false_signature.Statement.{statement}
 use Rattle.steps.proofs.outside.step_false_signature.Tie as tie
 
-judge-false-signature-requires : tie.Need-judge-false-signature-requires
-judge-false-signature-requires c κs = search asked
-
 returns : tie.Need-returns
 returns c = search refused
 
@@ -23,7 +20,7 @@ pub step-false-signature-spec : {M : Type 1} → statement M
 step-false-signature-spec =
     tie.close
     (tie.spec
-    judge-false-signature-requires
+    (λ c κs. search asked)
     (λ c. search needs)
     returns
     add-fact-requires

@@ -7,9 +7,6 @@ use Rattle.steps.proofs.Did.{did-up}
 use Rattle.steps.proofs.outside.step_up.Statement.{statement}
 use Rattle.steps.proofs.outside.step_up.Tie as tie
 
-judge-up-requires : tie.Need-judge-up-requires
-judge-up-requires c κs = search asked
-
 returns : tie.Need-returns
 returns c = search refused
 
@@ -23,7 +20,7 @@ pub step-up-spec : {M : Type 1} → statement M
 step-up-spec =
     tie.close
     (tie.spec
-    judge-up-requires
+    (λ c κs. search asked)
     (λ c. search needs)
     returns
     set-value-requires
