@@ -27,13 +27,15 @@ pub cleared : (input t : List ℕ) (n : ℕ) → n ≡ size → t ≡ replicate 
 unfolding stateAt freshState
 cleared input t n long zeros = zeros ∙ ap (λ (k : ℕ). replicate k 0) long
 
-pub made : {input table : List ℕ} {h : Head} {rows : List ℕ} → Taken input → table ≡ tableIn input → h ≡ headOf table → rows ≡ clashRows table
+pub made : {input table : List ℕ} {h : Head} {rows : List ℕ} → Taken input → table ≡ tableIn input → h ≡ headOf table
+    → rows ≡ clashRows table
     → Made input table h rows
 made T cut head rows =
     record { taken = T; cut = cut; prepared = record { taken = ap refusal cut ∙ T .table; head = head; clashes = all-rows rows } }
 
 -- the steps were run
-module _ {input table : List ℕ} {h : Head} {rows : List ℕ} (M : Made input table h rows) {a b : ℕ} {s mid more : List ℕ} (ran : Ran input (stepCount input) s mid a more b) where
+module _ {input table : List ℕ} {h : Head} {rows : List ℕ} (M : Made input table h rows) {a b : ℕ} {s mid more : List ℕ}
+    (ran : Ran input (stepCount input) s mid a more b) where
   pub showable : Canon s × (h .n ≤ 16) × (h .items ≤ 64)
   showable = let R = ready-now M (stepCount input) (ran .state) in (R .canon, R .room .peers, R .room .items)
 
@@ -51,7 +53,8 @@ module _ {input table : List ℕ} {h : Head} {rows : List ℕ} (M : Made input t
 
 -- what `rehearse` promises
 abbrev pub Promised : List ℕ → List ℕ → List ℕ → List ℕ → List ℕ → ℕ → Type 0
-Promised input s out t is r = (r ≡ length (reported input s)) × ((r ≤ reportMost) × ((is ≡ over out 0 (reported input s)) × (t ≡ stateLeft input s)))
+Promised input s out t is r =
+    (r ≡ length (reported input s)) × ((r ≤ reportMost) × ((is ≡ over out 0 (reported input s)) × (t ≡ stateLeft input s)))
 
 module _ (input s out : List ℕ) {t is : List ℕ} {to : ℕ} where
   written : (text : List ℕ) → reported input s ≡ text → Wrote out 0 text is to → t ≡ stateLeft input s → Promised input s out t is to

@@ -41,10 +41,17 @@ byte-in l a b = record { long = length-set l a b; put = λ _. record { bytes = r
 
 pub byte-out : (l : List ℕ) (a b n : ℕ) → length l ≤ a → n ≡ (a + 1) % 2 ^ 64 → Wrote l a (b ∷ []) l n
 unfolding over
-byte-out l a b n past e = record { long = refl; put = λ small. record { bytes = sym (set-out l a b past); place = omega (arith, small, e) } }
+byte-out l a b n past e = record {
+  long = refl;
+  put = λ small. record {
+    bytes = sym (set-out l a b past);
+    place = omega (arith, small, e);
+  };
+}
 
 -- a word, byte by byte
-pub word-more : {l l₁ l₂ : List ℕ} {a a₁ a₂ : ℕ} (w : List ℕ) (i : ℕ) → i < length w → Wrote l a (take i w) l₁ a₁ → Wrote l₁ a₁ (getD w i 0 ∷ []) l₂ a₂ → Wrote l a (take (i + 1) w) l₂ a₂
+pub word-more : {l l₁ l₂ : List ℕ} {a a₁ a₂ : ℕ} (w : List ℕ) (i : ℕ) → i < length w → Wrote l a (take i w) l₁ a₁
+    → Wrote l₁ a₁ (getD w i 0 ∷ []) l₂ a₂ → Wrote l a (take (i + 1) w) l₂ a₂
 word-more {l} {l₁} {l₂} {a} {a₁} {a₂} w i h x y = rw (add-one, take-suc w i 0) (x ▷ y)
 
 pub word-all : {l l₁ : List ℕ} {a a₁ : ℕ} (w : List ℕ) (i : ℕ) → length w ≤ i → Wrote l a (take i w) l₁ a₁ → Wrote l a w l₁ a₁
@@ -55,11 +62,13 @@ pub each-none : {l : List ℕ} {a : ℕ} (f : ℕ → List ℕ) → Wrote l a (e
 unfolding each
 each-none f = none
 
-pub each-more : {l l₁ l₂ : List ℕ} {a a₁ a₂ : ℕ} (f : ℕ → List ℕ) (k : ℕ) → Wrote l a (each f k) l₁ a₁ → Wrote l₁ a₁ (f k) l₂ a₂ → Wrote l a (each f (k + 1)) l₂ a₂
+pub each-more : {l l₁ l₂ : List ℕ} {a a₁ a₂ : ℕ} (f : ℕ → List ℕ) (k : ℕ) → Wrote l a (each f k) l₁ a₁ → Wrote l₁ a₁ (f k) l₂ a₂
+    → Wrote l a (each f (k + 1)) l₂ a₂
 unfolding each
 each-more {l} {l₁} {l₂} {a} {a₁} {a₂} f k x y = subst⁻¹ (λ (n : ℕ). Wrote l a (each f n) l₂ a₂) (add-one k) (x ▷ y)
 
-pub each-all : {l l₁ : List ℕ} {a a₁ : ℕ} (f : ℕ → List ℕ) (n k : ℕ) → k ≤ n → n ≤ k → Wrote l a (each f k) l₁ a₁ → Wrote l a (each f n) l₁ a₁
+pub each-all : {l l₁ : List ℕ} {a a₁ : ℕ} (f : ℕ → List ℕ) (n k : ℕ) → k ≤ n → n ≤ k → Wrote l a (each f k) l₁ a₁
+    → Wrote l a (each f n) l₁ a₁
 each-all {l} {l₁} {a} {a₁} f n k h m x = subst (λ (i : ℕ). Wrote l a (each f i) l₁ a₁) (le-antisymm h m) x
 
 -- a text where a test holds, and nothing where it does not
