@@ -1,5 +1,10 @@
 -- Each return is settled by the tests before it.
+use Prim.Native.Nat.{_+_}
+use denote.Ref.{now}
+use mathlib.Core.Path.{_≡_, sym, _∙_}
 use borrow.Author.Tests.{eq-eqb, ne-eqb}
+use Rattle.bits.specs.Number.{num}
+use Rattle.state.specs.Layout.{itemBytes, boardIn}
 use Rattle.bag.specs.Bag.{writtenSigner}
 use borrow.Author.Needs.{needs}
 use Rattle.bag.proofs.written_signer.Statement.{statement}
@@ -18,7 +23,9 @@ unfolding writtenSigner
 returns-3 c = let b = c .before in
     let k = b .before .before in
     let p = k .before .before in
-    rw (eq-eqb _ _ (p .if1 .left), eq-eqb _ _ (k .if2 .left), ← b .before .load .ensures, eq-eqb _ _ (b .if3 .taken))
+    let a = p .before .before .before .args in
+    let asked : num itemBytes (now (a .s)) (a .o + boardIn) ≡ a .board = sym (b .before .load .ensures) ∙ b .if3 .taken in
+    rw (eq-eqb _ _ (p .if1 .left), eq-eqb _ _ (k .if2 .left), eq-eqb _ _ asked)
 
 returns-4 : tie.Need-returns-4
 unfolding writtenSigner
