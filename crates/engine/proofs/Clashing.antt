@@ -2,17 +2,21 @@
 use Prim.Native.Nat.{ℕ}
 use native.Mathlib.Omega.{arith}
 use mathlib.Core.Bool.{Bool, true, false, _&&_}
-use mathlib.Core.List.{List}
+use mathlib.Core.List.{List, [], _∷_}
 use mathlib.Core.Path.{_≡_, refl, sym, ap, subst, _∙_}
 use Rattle.base.specs.Bits.{bit}
+use Rattle.base.specs.Refusals.{numbered, first}
 use Rattle.base.proofs.Below.{any-ext}
 use Rattle.base.proofs.Bits.{bit-pack}
-use Rattle.base.proofs.Truth.{split}
 use Rattle.header.specs.Header.{itemsOf}
 use Rattle.clash.specs.Clash.{clashIn, maskWidth, clashMask}
 use Rattle.rules.specs.declared.Step.{Step}
 use Rattle.rules.specs.declared.Step.the-variants.{Post, Hand, Sign, Take, Share, Receipt, Close, Fetch, SendHash, Hear, Back, Publish, FalseSignature, FalseShare, FalseHash, FalseBacking, Down, Up}
 use Rattle.rules.specs.Table.{clashing}
+use Rattle.rules.specs.State.{State}
+use Rattle.rules.specs.Fields.{Fields, fields}
+use Rattle.rules.specs.ByRow.{oneOf, byRow}
+use Rattle.rules.proofs.ByRow.{by-row}
 use Rattle.rules.specs.Rules.{rule, answer, boardFrom}
 use Rattle.state.specs.Contents.{contents}
 use Rattle.header.specs.declared.Head.{Head}
@@ -21,49 +25,22 @@ use Rattle.view.specs.Effect.{effectOn}
 use Rattle.view.specs.Ready.{Ready}
 use Rattle.steps.specs.Stepped.{Stepped}
 
--- the step is a hand
+-- the step is a hand, by its op
 abbrev pub isHand : Step → Bool
-isHand (Post x) = false
-isHand (Hand j x) = true
-isHand (Sign j x) = false
-isHand (Take j k p x) = false
-isHand (Share j x) = false
-isHand (Receipt p x) = false
-isHand (Close j) = false
-isHand (Fetch j k p) = false
-isHand (SendHash j p) = false
-isHand (Hear j e) = false
-isHand (Back j) = false
-isHand (Publish e) = false
-isHand (FalseSignature j p x) = false
-isHand (FalseShare j p x) = false
-isHand (FalseHash j p B) = false
-isHand (FalseBacking j p B) = false
-isHand (Down j) = false
-isHand (Up j) = false
+isHand st = oneOf (fields st .op) (2 ∷ [])
 
 module _ (h : Head) (c d : ℕ → ℕ → Bool) (s : List ℕ) where
-  -- no other step is judged by what clashes
+  abbrev held : State
+  held = stateOf (contents s)
+
+  -- no other step is judged by what clashes: of document 01's rows only that of a hand asks it
+  same-rows : (f : Fields) → oneOf (f .op) (2 ∷ []) ≡ false
+      → first (numbered (byRow (tableOf h c) held f)) ≡ first (numbered (byRow (tableOf h d) held f))
+  unfolding byRow boardFrom
+  same-rows f n = rw n
+
   not-asked : (st : Step) → isHand st ≡ false → answerOn h c s st ≡ answerOn h d s st
-  unfolding answer rule boardFrom
-  not-asked (Post x) n = refl
-  not-asked (Hand j x) n = split refl n
-  not-asked (Sign j x) n = refl
-  not-asked (Take j k p x) n = refl
-  not-asked (Share j x) n = refl
-  not-asked (Receipt p x) n = refl
-  not-asked (Close j) n = refl
-  not-asked (Fetch j k p) n = refl
-  not-asked (SendHash j p) n = refl
-  not-asked (Hear j e) n = refl
-  not-asked (Back j) n = refl
-  not-asked (Publish e) n = refl
-  not-asked (FalseSignature j p x) n = refl
-  not-asked (FalseShare j p x) n = refl
-  not-asked (FalseHash j p B) n = refl
-  not-asked (FalseBacking j p B) n = refl
-  not-asked (Down j) n = refl
-  not-asked (Up j) n = refl
+  not-asked st n = by-row (tableOf h c) held st ∙ same-rows (fields st) n ∙ sym (by-row (tableOf h d) held st)
 
   -- a hand is judged by what clashes with its item
   hand-asked : (j x : ℕ)
