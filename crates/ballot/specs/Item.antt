@@ -6,6 +6,7 @@ use mathlib.Core.Path.{_≡_}
 use lib.Dec.{ltb, eqb}
 use lib.ListN.{length}
 use Rattle.base.specs.Bytes.{byteAt, numberAt, between}
+use Rattle.base.specs.Refusals.{item, numberOf}
 use Rattle.ballot.specs.declared.item.Kind.{Kind}
 use Rattle.ballot.specs.declared.item.Kind.the-variants.{Vote, Audit, Cancellation}
 use Rattle.ballot.specs.declared.item.Item.{Item}
@@ -18,10 +19,10 @@ kindNumber (Vote n) = 1
 kindNumber Audit = 2
 kindNumber Cancellation = 3
 
--- the number on the report of each reading: 0 done, 3 item
+-- the number on the report of each reading
 abbrev pub readingNumber : Reading → ℕ
 readingNumber (Good i) = 0
-readingNumber Wrong = 3
+readingNumber Wrong = numberOf item
 
 -- the ballot number: four bytes, high byte first
 abbrev pub ballotOf : List ℕ → ℕ

@@ -79,7 +79,8 @@ module _ {table : List ℕ} {h : Head} {rows : List ℕ} (P : Prepared table h r
   unfolding stepAnswer stepBytes reply
   form-refused c e m = (rw (P .taken, state-taken, sym e, m), rw (P .taken, state-taken, sym e, m))
 
-  pub step-judged : (c : Call) → c ≡ read step → (st : Step) → c ≡ Formed st → (t : List ℕ) (a : ℕ) → Stepped h (clashIn table) s t st a → (a ≡ stepAnswer table s step) × (t ≡ stepBytes table s step)
+  pub step-judged : (c : Call) → c ≡ read step → (st : Step) → c ≡ Formed st → (t : List ℕ) (a : ℕ)
+      → Stepped h (clashIn table) s t st a → (a ≡ stepAnswer table s step) × (t ≡ stepBytes table s step)
   unfolding stepAnswer stepBytes reply leaveOn
   step-judged c e st m t a p =
       let q = subst (λ h. Stepped h (clashIn table) s t st a) (P .head) p in

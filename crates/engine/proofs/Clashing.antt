@@ -66,7 +66,9 @@ module _ (h : Head) (c d : ℕ → ℕ → Bool) (s : List ℕ) where
   not-asked (Up j) n = refl
 
   -- a hand is judged by what clashes with its item
-  hand-asked : (j x : ℕ) → clashing (tableOf h c) (stateOf (contents s) .held j) x ≡ clashing (tableOf h d) (stateOf (contents s) .held j) x → answerOn h c s (Hand j x) ≡ answerOn h d s (Hand j x)
+  hand-asked : (j x : ℕ)
+      → clashing (tableOf h c) (stateOf (contents s) .held j) x ≡ clashing (tableOf h d) (stateOf (contents s) .held j) x
+      → answerOn h c s (Hand j x) ≡ answerOn h d s (Hand j x)
   unfolding answer rule
   hand-asked j x e = rw e
 
@@ -96,17 +98,23 @@ module _ (h : Head) (c d : ℕ → ℕ → Bool) (s : List ℕ) where
   stepped-too t st r e S = record { answers = S .answers ∙ e; leaves = rw (← same-effect st) (S .leaves) }
 
 -- the step that the match found, with what clashes in the table
-pub of-step : (h : Head) (clash : ℕ → ℕ → Bool) (s t : List ℕ) (r : ℕ) (a b : Step) → b ≡ a → isHand a ≡ false → Stepped h noClash s t a r → Stepped h clash s t b r
-of-step h clash s t r a b e n S = subst (λ st. Stepped h clash s t st r) (sym e) (stepped-too h noClash clash s t a r (not-asked h noClash clash s a n) S)
+pub of-step : (h : Head) (clash : ℕ → ℕ → Bool) (s t : List ℕ) (r : ℕ) (a b : Step) → b ≡ a → isHand a ≡ false
+    → Stepped h noClash s t a r → Stepped h clash s t b r
+of-step h clash s t r a b e n S = subst (λ st. Stepped h clash s t st r) (sym e)
+    (stepped-too h noClash clash s t a r (not-asked h noClash clash s a n) S)
 
 -- and the hand, whose item's row was read
-module _ (h : Head) (table s : List ℕ) (R : Ready h s) (same : h .items ≡ itemsOf table) (j x row : ℕ) (read : row ≡ clashMask table x) where
-  row-asked : clashing (tableOf h (inRow row)) (stateOf (contents s) .held j) x ≡ clashing (tableOf h (clashIn table)) (stateOf (contents s) .held j) x
+module _ (h : Head) (table s : List ℕ) (R : Ready h s) (same : h .items ≡ itemsOf table) (j x row : ℕ)
+    (read : row ≡ clashMask table x) where
+  row-asked : clashing (tableOf h (inRow row)) (stateOf (contents s) .held j) x
+      ≡ clashing (tableOf h (clashIn table)) (stateOf (contents s) .held j) x
   unfolding clashing clashMask
   row-asked =
       any-ext (h .periods) _ _ (λ p _.
       any-ext (h .items) _ _ (λ y l.
-      ap (λ (b : Bool). stateOf (contents s) .held j p y && b) (ap (λ (m : ℕ). bit m y) read ∙ bit-pack (maskWidth table) (clashIn table x) y (omega (arith, R .room .items)))))
+      ap (λ (b : Bool). stateOf (contents s) .held j p y && b)
+      (ap (λ (m : ℕ). bit m y) read ∙ bit-pack (maskWidth table) (clashIn table x) y (omega (arith, R .room .items)))))
 
   pub of-hand : (t : List ℕ) (r : ℕ) (b : Step) → b ≡ Hand j x → Stepped h (inRow row) s t (Hand j x) r → Stepped h (clashIn table) s t b r
-  of-hand t r b e S = subst (λ st. Stepped h (clashIn table) s t st r) (sym e) (stepped-too h (inRow row) (clashIn table) s t (Hand j x) r (hand-asked h (inRow row) (clashIn table) s j x row-asked) S)
+  of-hand t r b e S = subst (λ st. Stepped h (clashIn table) s t st r) (sym e)
+      (stepped-too h (inRow row) (clashIn table) s t (Hand j x) r (hand-asked h (inRow row) (clashIn table) s j x row-asked) S)

@@ -76,8 +76,16 @@ module _ (h : Head) (clash : ℕ → ℕ → Bool) (room : Room h) (c : Contents
   board-small B l = omega (arith, l, pow-le-pow-right {n = 2} (zero-lt-suc 1) {i = h .items} {j = items} (room .items))
 
   entry-fits : (x : Entry) → InTable (tableOf h clash) x → EntryFits x
-  entry-fits (Hash k p B) t = record { signer = omega (arith, t .0 .1, room .peers); period = omega (arith, t .1 .0, room .periods); board = board-small B (t .1 .1) }
-  entry-fits (Backing k p B) t = record { signer = omega (arith, t .0 .1, room .peers); period = omega (arith, t .1 .0, room .periods); board = board-small B (t .1 .1) }
+  entry-fits (Hash k p B) t = record {
+    signer = omega (arith, t .0 .1, room .peers);
+    period = omega (arith, t .1 .0, room .periods);
+    board = board-small B (t .1 .1);
+  }
+  entry-fits (Backing k p B) t = record {
+    signer = omega (arith, t .0 .1, room .peers);
+    period = omega (arith, t .1 .0, room .periods);
+    board = board-small B (t .1 .1);
+  }
   entry-fits (Board p B) t = record { signer = omega arith; period = omega (arith, t .0, room .periods); board = board-small B (t .1) }
 
   pub good-fits : Fits c

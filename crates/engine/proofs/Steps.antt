@@ -51,7 +51,11 @@ module _ (h : Head) (clash : ℕ → ℕ → Bool) (s : List ℕ) (R : Ready h s
       let H = encode-holds new (good-fits h clash (R .room) new good) in
       record {
         holds = ap stateOf (H .says) ∙ meets (contents s) (R .good clash .sound) T st clear ∙ rw zero;
-        ready = record { room = R .room; canon = H .canon; good = good-whatever h clash (contents (encode new)) (subst (λ c. Good T c) (sym (H .says)) good) };
+        ready = record {
+          room = R .room;
+          canon = H .canon;
+          good = good-whatever h clash (contents (encode new)) (subst (λ c. Good T c) (sym (H .says)) good);
+        };
       }
 
   -- one that is refused

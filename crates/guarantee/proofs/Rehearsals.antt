@@ -53,6 +53,5 @@ module _ (input : List ℕ) where
   pub demand-3-shown : inputRefusal input ≡ 0 → thresholdOf table ≤ honestCount (headOf table) → ShownSafe input
   demand-3-shown fit enough = record {
     shown = shown;
-    safe = demand-3-on-bytes table
-        (record { taken = taken input fit .table; honest = enough }) (callsIn input);
+    safe = demand-3-on-bytes table (record { taken = taken input fit .table; honest = enough }) (callsIn input);
   }

@@ -12,6 +12,7 @@ use Rattle.base.specs.Refusals.{first}
 use Rattle.base.specs.Sets.{add1, add2, add3, add4, setAt}
 use Rattle.base.specs.Weight.{weight}
 use Rattle.header.specs.Header.{headerSize, fieldOf}
+use Rattle.header.specs.Quorum.{weightOf}
 use Rattle.ballot.specs.Item.{readKind, readItem}
 use Rattle.clash.specs.Clash.{clash, clashIn}
 use Rattle.rules.specs.Table.{clashing}
@@ -51,7 +52,8 @@ pub record Computed : Type 0 where
       ((0, 0) ∷ []) ((0, 1) ∷ [])
 
 computed : Computed
-unfolding headerSize fieldOf first any every bit member pack numberAt part sameBytes readItem readKind clashIn clash add1 add2 add3 add4
+unfolding headerSize fieldOf weightOf first any every bit member pack numberAt part sameBytes readItem readKind clashIn clash add1 add2
+    add3 add4
     setAt weight clashing sameEntry isIn enter isFull boardsIn allZero formed select ops laterOps read boardFrom addRows rule answer next
     reply leave isThere hasBoard onBoard mayReceive mayReceipt mayPublish nowEnough move feed ideal deed deedOf backingNamed seenWith
     runFrom after answersFrom

@@ -1,5 +1,5 @@
 -- The report from its parts, and the two ways in which a rehearsal ends.
-use Prim.Native.Nat.{ℕ, _≤_}
+use Prim.Native.Nat.{ℕ, _^_, _<_, _≤_}
 use native.Mathlib.Omega.{arith}
 use mathlib.Core.List.{List}
 use mathlib.Core.Path.{_≡_, ap, subst, _∙_}
@@ -27,13 +27,15 @@ pub cleared : (input t : List ℕ) (n : ℕ) → n ≡ size → t ≡ replicate 
 unfolding stateAt freshState
 cleared input t n long zeros = zeros ∙ ap (λ (k : ℕ). replicate k 0) long
 
-pub made : {input table : List ℕ} {h : Head} {rows : List ℕ} → Taken input → table ≡ tableIn input → h ≡ headOf table → rows ≡ clashRows table
+pub made : {input table : List ℕ} {h : Head} {rows : List ℕ} → Taken input → table ≡ tableIn input → h ≡ headOf table
+    → rows ≡ clashRows table
     → Made input table h rows
 made T cut head rows =
     record { taken = T; cut = cut; prepared = record { taken = ap refusal cut ∙ T .table; head = head; clashes = all-rows rows } }
 
 -- the steps were run
-module _ {input table : List ℕ} {h : Head} {rows : List ℕ} (M : Made input table h rows) {a b : ℕ} {s mid more : List ℕ} (ran : Ran input (stepCount input) s mid a more b) where
+module _ {input table : List ℕ} {h : Head} {rows : List ℕ} (M : Made input table h rows) {a b : ℕ} {s mid more : List ℕ}
+    (ran : Ran input (stepCount input) s mid a more b) where
   pub showable : Canon s × (h .n ≤ 16) × (h .items ≤ 64)
   showable = let R = ready-now M (stepCount input) (ran .state) in (R .canon, R .room .peers, R .room .items)
 
@@ -51,14 +53,14 @@ module _ {input table : List ℕ} {h : Head} {rows : List ℕ} (M : Made input t
 
 -- what `rehearse` promises
 abbrev pub Promised : List ℕ → List ℕ → List ℕ → List ℕ → List ℕ → ℕ → Type 0
-Promised input s out t is r = (r ≡ length (reported input s)) × ((r ≤ reportMost) × ((is ≡ over out 0 (reported input s)) × (t ≡ stateLeft input s)))
+Promised input s out t is r =
+    (r ≡ length (reported input s)) × ((r ≤ reportMost) × ((is ≡ over out 0 (reported input s)) × (t ≡ stateLeft input s)))
 
-module _ (input s out : List ℕ) {t is : List ℕ} {to : ℕ} where
+module _ (input s out : List ℕ) {t is : List ℕ} {to : ℕ} (room : length out < 2 ^ 64) where
   written : (text : List ℕ) → reported input s ≡ text → Wrote out 0 text is to → t ≡ stateLeft input s → Promised input s out t is to
   written text e w left =
       let small : length text ≤ reportMost = subst (λ (u : List ℕ). length u ≤ reportMost) e (reported-most input s) in
-      let put = w .put (omega (arith, small)) in
-      rw e (omega (arith, put .place), (omega (arith, put .place, small), (put .bytes, left)))
+      rw e (omega (arith, w .place, small), (omega (arith, w .place, small), (w .bytes room, left)))
 
   module _ {r : ℕ} (judged : r ≡ lentRefusal input s) where
     pub refused : (r ≡ 0 → ⊥) → Wrote out 0 (refusedLine r) is to → t ≡ s → Promised input s out t is to

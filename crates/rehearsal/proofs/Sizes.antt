@@ -61,19 +61,23 @@ module _ (input : List ℕ) (T : Taken input) where
   lines-most =
       each-most (stepAt input) 8 (stepCount input) 5042 (omega (arith, T .few)) (λ k l.
       step-most (k + 1) (stepAnswer table (stateAt input k) (callAt input k)) (omega (arith, T .few, l))
-      (rw (step-answers table (T .table) (stateAt input k) (state-ready input T k) (callAt input k)) (reply-small (rulesTable table) (stateOf (contents (stateAt input k))) (read (callAt input k)))))
+      (rw (step-answers table (T .table) (stateAt input k) (state-ready input T k) (callAt input k))
+      (reply-small (rulesTable table) (stateOf (contents (stateAt input k))) (read (callAt input k)))))
 
   shown-most : length (stateLines (headOf table) (contents (lastState input))) ≤ 181252
   unfolding lastState
   shown-most =
       let R = state-ready input T (stepCount input) in
-      let fits = good-fits (headOf table) (clashIn table) (R .room) (contents (stateAt input (stepCount input))) (R .good (clashIn table)) in
-      state-most (headOf table) (R .room .peers) (R .room .periods) (R .room .items) (contents (stateAt input (stepCount input))) (fits .counted) (λ e l. omega (arith, fits .entry e l .period))
+      let fits = good-fits (headOf table) (clashIn table) (R .room) (contents (stateAt input (stepCount input)))
+      (R .good (clashIn table)) in
+      state-most (headOf table) (R .room .peers) (R .room .periods) (R .room .items) (contents (stateAt input (stepCount input)))
+      (fits .counted) (λ e l. omega (arith, fits .entry e l .period))
 
   first-line-most : length (headLine (peersOf table) (thresholdOf table) (honestCount (headOf table))) ≤ 32
   first-line-most =
       let S = sound table (T .table) in
-      head-most (peersOf table) (thresholdOf table) (honestCount (headOf table)) (omega (arith, S .peers-most)) (omega (arith, S .peers-most, S .threshold-most))
+      head-most (peersOf table) (thresholdOf table) (honestCount (headOf table)) (omega (arith, S .peers-most))
+      (omega (arith, S .peers-most, S .threshold-most))
       (omega (arith, S .peers-most, honest-most (headOf table)))
 
   report-most : length (reportOf input) ≤ reportMost

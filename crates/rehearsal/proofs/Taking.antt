@@ -25,7 +25,8 @@ module _ (input : List ℕ) (zero : inputRefusal input ≡ 0) where
 
   reaches : tableEnd input ≤ length input
   unfolding tableThere
-  reaches = leb-true (tableEnd input) (length input) (and-r (pairsFit input (headerSize input) (itemsOf input)) _ (not-false _ (all-passed .1 .1 .0)))
+  reaches = leb-true (tableEnd input) (length input)
+      (and-r (pairsFit input (headerSize input) (itemsOf input)) _ (not-false _ (all-passed .1 .1 .0)))
 
   own-refusals : refusal (tableIn input) ≡ 0
   unfolding refusal

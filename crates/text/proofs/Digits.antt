@@ -26,11 +26,18 @@ unfolding spelled
 spell zero m n l f = absurd (not-suc-le-zero (f .0))
 spell (suc k) zero n l f = absurd (not-suc-le-zero l)
 spell (suc zero) (suc m) n l f =
-    rw (lt-ltb n 10 (omega (arith, f .1)), lt-ltb (n % 10) 10 (omega arith)) (ap (λ (d : ℕ). (48 + d) ∷ []) {x = n % 10} {y = n} (omega (arith, f .1)))
+    rw (lt-ltb n 10 (omega (arith, f .1)), lt-ltb (n % 10) 10 (omega arith))
+    (ap (λ (d : ℕ). (48 + d) ∷ []) {x = n % 10} {y = n} (omega (arith, f .1)))
 spell (suc (suc k)) (suc m) n l f =
     let least : 10 ^ suc k ≤ n = omega (arith, f .2 (omega arith), before (suc k)) in
-    let rest : Fewest 10 1 (n / 10) (suc k) = (omega arith, omega (arith, f .1, pow-suc 10 (suc k)), λ _. omega (arith, least, pow-suc 10 k, before k)) in
-    rw (le-ltb n 10 (omega (arith, least, pow-suc 10 k, power k)), lt-ltb (n % 10) 10 (omega arith), spell (suc k) m (n / 10) (le-of-suc-le-suc l) rest)
+    let rest : Fewest 10 1 (n / 10) (suc k) =
+    (omega arith, omega (arith, f .1, pow-suc 10 (suc k)), λ _. omega (arith, least, pow-suc 10 k, before k)) in
+    rw (
+      le-ltb n 10 (omega (arith, least, pow-suc 10 k, power k)),
+      lt-ltb (n % 10) 10 (omega arith),
+      spell (suc k) m (n / 10)
+          (le-of-suc-le-suc l) rest,
+    )
 
 enough : (k n : ℕ) → Fewest 10 1 n k → k ≤ n + 1
 enough zero n f = omega arith
@@ -41,7 +48,8 @@ pub is-decimal : (k n : ℕ) → Fewest 10 1 n k → digits 10 k n ≡ decimal n
 unfolding decimal
 is-decimal k n f = spell k (n + 1) n (enough k n f) f
 
-pub one-field : {l l₁ l₂ : List ℕ} {a a₁ a₂ : ℕ} (n : ℕ) → Wrote l a (32 ∷ []) l₁ a₁ → Wrote l₁ a₁ (decimal n) l₂ a₂ → Wrote l a (field n) l₂ a₂
+pub one-field : {l l₁ l₂ : List ℕ} {a a₁ a₂ : ℕ} (n : ℕ) → Wrote l a (32 ∷ []) l₁ a₁ → Wrote l₁ a₁ (decimal n) l₂ a₂
+    → Wrote l a (field n) l₂ a₂
 unfolding field
 one-field n x y = x ▷ y
 

@@ -1,9 +1,24 @@
 // Text written into a lent buffer: bytes, words and numbers, each at the place where the one before it ended.
 // A place is handed on by value. What lies past the buffer's end is counted and not written.
 // It uses io for decimal digits, and no other crate.
+ghost use Prim.Native.Nat.{_+_};
 ghost use mathlib.Core.List.{[], _∷_};
-ghost use Rattle.text.specs.Wrote.{Wrote};
+ghost use mathlib.Core.Path.{_≡_};
+ghost use Rattle.text.specs.Wrote.{placeOf, Wrote};
 ghost use Rattle.text.specs.Decimal.{decimal, field};
+
+// The last place.
+const LAST: usize = 18446744073709551615;
+
+// The place after a place that lies past the buffer's end; after the last there is none.
+fn next_place(at: usize) -> usize
+    ensures { λ r. ⌜ placeOf r ≡ placeOf (at + 1) ⌝ }
+{
+    if at == LAST {
+        return at;
+    }
+    at + 1
+}
 
 // Writes a byte.
 pub fn put_byte(out: &mut [u8], at: usize, b: u8) -> usize
@@ -13,7 +28,7 @@ pub fn put_byte(out: &mut [u8], at: usize, b: u8) -> usize
         out[at] = b;
         return at + 1;
     }
-    std::num::wrapping_add_usize(at, 1)
+    next_place(at)
 }
 
 // Writes a word, byte by byte.

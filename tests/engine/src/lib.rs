@@ -13,6 +13,8 @@ pub mod row14;
 #[derive(Clone, Copy)]
 pub struct Engine {
     pub name: &'static str,
+    /// Table: the answer.
+    pub check_table: fn(&[u8]) -> u8,
     /// Table and state: the answer.
     pub fresh: fn(&[u8], &mut [u8]) -> u8,
     /// Table, state and step: the answer.
@@ -21,17 +23,28 @@ pub struct Engine {
     pub rehearse: fn(&[u8], &mut [u8], &mut [u8]) -> usize,
 }
 
-pub const PROVED: Engine =
-    Engine { name: "proved", fresh: board_fresh, step: board_step, rehearse: board_rehearse };
+pub const PROVED: Engine = Engine {
+    name: "proved",
+    check_table: board_check_table,
+    fresh: board_fresh,
+    step: board_step,
+    rehearse: board_rehearse,
+};
 
-pub const PLAIN: Engine =
-    Engine { name: "plain", fresh: plain::fresh, step: plain::step, rehearse: plain::rehearse };
+pub const PLAIN: Engine = Engine {
+    name: "plain",
+    check_table: plain::check_table,
+    fresh: plain::fresh,
+    step: plain::step,
+    rehearse: plain::rehearse,
+};
 
 /// The engines that are held to the reference.
 pub const ENGINES: [Engine; 2] = [PROVED, PLAIN];
 
 mod c {
     extern "C" {
+        pub fn board_check_table(table: *const u8, n: usize) -> u8;
         pub fn board_state_length() -> usize;
         pub fn board_fresh(table: *const u8, n: usize, state: *mut u8, m: usize) -> u8;
         pub fn board_step(
@@ -52,6 +65,11 @@ mod c {
             out_length: usize,
         ) -> usize;
     }
+}
+
+pub fn board_check_table(table: &[u8]) -> u8 {
+    // The pointer goes with its slice's length.
+    unsafe { c::board_check_table(table.as_ptr(), table.len()) }
 }
 
 pub fn board_state_length() -> usize {

@@ -28,6 +28,8 @@ fn compare(engine: &Engine, text: &[u8], length: usize, dirty: &[u8], any_step: 
     assert_eq!(step_answer, dirty_answer, "{place}, step {any_step:?}");
     assert!(bytes == dirty, "{place}: a refused step wrote");
 
+    let table_answer = if answer == 14 { 0 } else { answer };
+    assert_eq!((engine.check_table)(text), table_answer, "{place}: the table alone");
     assert_eq!((engine.fresh)(text, &mut bytes[16..16 + length]), answer, "{place}");
     let mut after = dirty.to_vec();
     if answer == 0 {

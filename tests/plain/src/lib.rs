@@ -25,8 +25,16 @@ use table::Table;
 /// An answer: done, or the refusal's number.
 pub type Done = Result<(), u8>;
 
+pub fn check_table(table: &[u8]) -> u8 {
+    match Table::whole(table) {
+        Ok(_) => 0,
+        Err(refusal) => refusal,
+    }
+}
+
 pub fn fresh(table: &[u8], state: &mut [u8]) -> u8 {
-    if let Err(refusal) = Table::whole(table) {
+    let refusal = check_table(table);
+    if refusal != 0 {
         return refusal;
     }
     if state.len() != state::SIZE {

@@ -7,15 +7,9 @@ use Rattle.ballot.specs.Table.{refusal}
 use Rattle.ballot.proofs.check_table.Statement.{statement}
 use Rattle.ballot.proofs.check_table.Tie as tie
 
-header-ok-requires : tie.Need-header-ok-requires
-header-ok-requires c κs = search needs
-
 returns : tie.Need-returns
 unfolding refusal
 returns c = stop 1 _ (ap not (c .before .header-ok .ensures)) (c .if1 .taken)
-
-table-pairs-ok-requires : tie.Need-table-pairs-ok-requires
-table-pairs-ok-requires c κs = search needs
 
 returns-2 : tie.Need-returns-2
 unfolding refusal
@@ -23,9 +17,6 @@ returns-2 c =
     let header = c .before .before in
     pass 1 2 _ (ap not (header .before .header-ok .ensures)) (header .if1 .left)
     (stop 2 _ (ap not (c .before .table-pairs-ok .ensures)) (c .if2 .taken))
-
-items-ok-requires : tie.Need-items-ok-requires
-items-ok-requires c κs = search needs
 
 returns-3 : tie.Need-returns-3
 unfolding refusal
@@ -35,9 +26,6 @@ returns-3 c =
     pass 1 3 _ (ap not (header .before .header-ok .ensures)) (header .if1 .left)
     (pass 2 3 _ (ap not (pairs .before .table-pairs-ok .ensures)) (pairs .if2 .left)
     (stop 3 _ (ap not (c .before .items-ok .ensures)) (c .if3 .taken)))
-
-no-twins-requires : tie.Need-no-twins-requires
-no-twins-requires c κs = search needs
 
 returns-4 : tie.Need-returns-4
 unfolding refusal
@@ -65,12 +53,12 @@ pub check-table-spec : {M : Type 1} → statement M
 check-table-spec =
     tie.close
     (tie.spec
-    header-ok-requires
+    (λ c κs. search needs)
     returns
-    table-pairs-ok-requires
+    (λ c κs. search needs)
     returns-2
-    items-ok-requires
+    (λ c κs. search needs)
     returns-3
-    no-twins-requires
+    (λ c κs. search needs)
     returns-4
     returns-5)

@@ -4,18 +4,9 @@ use Rattle.ballot.specs.Table.{itemOk}
 use Rattle.ballot.proofs.item_ok.Statement.{statement}
 use Rattle.ballot.proofs.item_ok.Tie as tie
 
-item-at-requires : tie.Need-item-at-requires
-item-at-requires c κs = search needs
-
-read-item-requires : tie.Need-read-item-requires
-read-item-requires c κs = search needs
-
-reading-number-requires : tie.Need-reading-number-requires
-reading-number-requires c κs = search needs
-
 returns : tie.Need-returns
 unfolding itemOk
 returns c = simp (c .reading-number .ensures, c .before .read-item .ensures, c .before .before .item-at .ensures)
 
 pub item-ok-spec : {M : Type 1} → statement M
-item-ok-spec = tie.close (tie.spec item-at-requires read-item-requires reading-number-requires returns)
+item-ok-spec = tie.close (tie.spec (λ c κs. search needs) (λ c κs. search needs) (λ c κs. search needs) returns)

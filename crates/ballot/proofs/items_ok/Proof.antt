@@ -17,23 +17,14 @@ Inv-loop table m k₀ k = (k ≤ m) × (every k (itemOk table) ≡ true)
 abbrev μ-loop : tie.MeasureT-loop
 μ-loop table m k₀ k = m - k
 
-items-requires : tie.Need-items-requires Inv-loop μ-loop
-items-requires c κs = search needs
-
 loop-holds : tie.Need-loop-holds Inv-loop μ-loop
 loop-holds c = (omega arith, every-none _)
-
-item-ok-requires : tie.Need-item-ok-requires Inv-loop μ-loop
-item-ok-requires c κs = search needs
 
 returns : tie.Need-returns Inv-loop μ-loop
 unfolding itemsOk
 returns c =
     let l = c .before .before .before .loop in
     one-fails _ (l .k) _ (omega arith) (c .before .item-ok .ensures) (c .if1 .taken)
-
-add-k : tie.Need-add-k Inv-loop μ-loop
-add-k c = search needs
 
 loop-less : tie.Need-loop-less Inv-loop μ-loop
 loop-less c = omega arith
@@ -53,11 +44,11 @@ items-ok-spec =
     (tie.spec
     Inv-loop
     μ-loop
-    items-requires
+    (λ c κs. search needs)
     loop-holds
-    item-ok-requires
+    (λ c κs. search needs)
     returns
-    add-k
+    (λ c. search needs)
     loop-less
     loop-again
     returns-2)

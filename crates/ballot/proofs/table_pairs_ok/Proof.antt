@@ -4,18 +4,9 @@ use Rattle.ballot.specs.Table.{tablePairsOk}
 use Rattle.ballot.proofs.table_pairs_ok.Statement.{statement}
 use Rattle.ballot.proofs.table_pairs_ok.Tie as tie
 
-header-size-requires : tie.Need-header-size-requires
-header-size-requires c κs = search needs
-
-items-requires : tie.Need-items-requires
-items-requires c κs = search needs
-
-pairs-ok-requires : tie.Need-pairs-ok-requires
-pairs-ok-requires c κs = search needs
-
 returns : tie.Need-returns
 unfolding tablePairsOk
 returns c = simp (c .before .items .ensures, c .before .before .header-size .ensures) at (c .pairs-ok .ensures)
 
 pub table-pairs-ok-spec : {M : Type 1} → statement M
-table-pairs-ok-spec = tie.close (tie.spec header-size-requires items-requires pairs-ok-requires returns)
+table-pairs-ok-spec = tie.close (tie.spec (λ c κs. search needs) (λ c κs. search needs) (λ c κs. search needs) returns)

@@ -5,21 +5,9 @@ use Rattle.clash.specs.Clash.{clash}
 use Rattle.clash.proofs.clashes.Statement.{statement}
 use Rattle.clash.proofs.clashes.Tie as tie
 
-same-requires : tie.Need-same-requires
-same-requires c κs = search needs
-
 returns : tie.Need-returns
 unfolding clash
 returns c = rw (sym (c .before .same .ensures) ∙ c .if1 .taken)
-
-read-item-requires : tie.Need-read-item-requires
-read-item-requires c κs = search needs
-
-read-item-requires-2 : tie.Need-read-item-requires-2
-read-item-requires-2 c κs = search needs
-
-readings-clash-requires : tie.Need-readings-clash-requires
-readings-clash-requires c κs = search needs
 
 returns-2 : tie.Need-returns-2
 unfolding clash
@@ -32,9 +20,9 @@ pub clashes-spec : {M : Type 1} → statement M
 clashes-spec =
     tie.close
     (tie.spec
-    same-requires
+    (λ c κs. search needs)
     returns
-    read-item-requires
-    read-item-requires-2
-    readings-clash-requires
+    (λ c κs. search needs)
+    (λ c κs. search needs)
+    (λ c κs. search needs)
     returns-2)

@@ -8,11 +8,8 @@ use Rattle.clash.proofs.items_clash.Tie as tie
 returns : tie.Need-returns
 returns c = rw (ne-eqb _ _ (c .if1 .taken))
 
-kinds-clash-requires : tie.Need-kinds-clash-requires
-kinds-clash-requires c κs = search needs
-
 returns-2 : tie.Need-returns-2
 returns-2 c = c .kinds-clash .ensures ∙ rw (eq-eqb _ _ (c .before .if1 .left))
 
 pub items-clash-spec : {M : Type 1} → statement M
-items-clash-spec = tie.close (tie.spec returns kinds-clash-requires returns-2)
+items-clash-spec = tie.close (tie.spec returns (λ c κs. search needs) returns-2)

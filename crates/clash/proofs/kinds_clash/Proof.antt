@@ -4,22 +4,13 @@ use borrow.Author.Needs.{needs}
 use Rattle.clash.proofs.kinds_clash.Statement.{statement}
 use Rattle.clash.proofs.kinds_clash.Tie as tie
 
-is-cancellation-requires : tie.Need-is-cancellation-requires
-is-cancellation-requires c κs = search needs
-
 returns : tie.Need-returns
 returns c = rw (sym (c .before .is-cancellation .ensures) ∙ c .if1 .taken)
-
-is-cancellation-requires-2 : tie.Need-is-cancellation-requires-2
-is-cancellation-requires-2 c κs = search needs
 
 returns-2 : tie.Need-returns-2
 returns-2 c =
     let first = c .before .before in
     rw (sym (first .before .is-cancellation .ensures) ∙ first .if1 .left, sym (c .before .is-cancellation2 .ensures) ∙ c .if2 .taken)
-
-is-vote-requires : tie.Need-is-vote-requires
-is-vote-requires c κs = search needs
 
 returns-3 : tie.Need-returns-3
 returns-3 c =
@@ -30,9 +21,6 @@ returns-3 c =
       sym (second .before .is-cancellation2 .ensures) ∙ second .if2 .left,
       sym (c .before .is-vote .ensures) ∙ c .if3 .taken,
     )
-
-is-vote-requires-2 : tie.Need-is-vote-requires-2
-is-vote-requires-2 c κs = search needs
 
 returns-4 : tie.Need-returns-4
 returns-4 c =
@@ -49,11 +37,11 @@ pub kinds-clash-spec : {M : Type 1} → statement M
 kinds-clash-spec =
     tie.close
     (tie.spec
-    is-cancellation-requires
+    (λ c κs. search needs)
     returns
-    is-cancellation-requires-2
+    (λ c κs. search needs)
     returns-2
-    is-vote-requires
+    (λ c κs. search needs)
     returns-3
-    is-vote-requires-2
+    (λ c κs. search needs)
     returns-4)

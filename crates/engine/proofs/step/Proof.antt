@@ -16,7 +16,8 @@ returns-2 c =
     let state = c .before in
     let head = state .before .before in
     let table = head .before .before in
-    step-state-refused _ (table .check-table .ensures) (head .before .if1 .left) _ _ (head .head-of .ensures) (state .state-ok .ensures) _ (not-true _ (c .if2 .taken))
+    step-state-refused _ (table .check-table .ensures) (head .before .if1 .left) _ _ (head .head-of .ensures)
+    (state .state-ok .ensures) _ (not-true _ (c .if2 .taken))
 
 run-step-requires : tie.Need-run-step-requires
 run-step-requires c κs =
@@ -25,13 +26,13 @@ run-step-requires c κs =
     let table = head .before .before in
     let bytes = table .before .before in (
       prepared _ (table .check-table .ensures) (head .before .if1 .left) _ (head .head-of .ensures),
-      ready-read _ (table .check-table .ensures) (head .before .if1 .left) _ _ (head .head-of .ensures) (state .state-ok .ensures) (λ k. bytes .slice-known .given k .fits) (not-false _ (c .before .before .if2 .left)),
+      ready-read _ (table .check-table .ensures) (head .before .if1 .left) _ _ (head .head-of .ensures) (state .state-ok .ensures)
+          (λ k. bytes .slice-known .given k .fits) (not-false _ (c .before .before .if2 .left)),
     )
 
 pub step-spec : {M : Type 1} → statement M
 step-spec =
-    tie.close
-    (tie.spec
+    tie.close (tie.spec
     (λ c κs. search needs)
     returns
     (λ c κs. search needs)

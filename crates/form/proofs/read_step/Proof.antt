@@ -7,27 +7,6 @@ use Rattle.form.proofs.read_step.Tie as tie
 returns : tie.Need-returns
 returns c = other-length _ (c .if1 .taken)
 
-number-at-requires : tie.Need-number-at-requires
-number-at-requires c κs = search needs
-
-byte-at-requires : tie.Need-byte-at-requires
-byte-at-requires c κs = search needs
-
-byte-at-requires-2 : tie.Need-byte-at-requires-2
-byte-at-requires-2 c κs = search needs
-
-byte-at-requires-3 : tie.Need-byte-at-requires-3
-byte-at-requires-3 c κs = search needs
-
-byte-at-requires-4 : tie.Need-byte-at-requires-4
-byte-at-requires-4 c κs = search needs
-
-byte-at-requires-5 : tie.Need-byte-at-requires-5
-byte-at-requires-5 c κs = search needs
-
-read-op-requires : tie.Need-read-op-requires
-read-op-requires c κs = search needs
-
 returns-2 : tie.Need-returns-2
 returns-2 c = search thirteen
 
@@ -36,11 +15,11 @@ read-step-spec =
     tie.close
     (tie.spec
     returns
-    number-at-requires
-    byte-at-requires
-    byte-at-requires-2
-    byte-at-requires-3
-    byte-at-requires-4
-    byte-at-requires-5
-    read-op-requires
+    (λ c κs. search needs)
+    (λ c κs. search needs)
+    (λ c κs. search needs)
+    (λ c κs. search needs)
+    (λ c κs. search needs)
+    (λ c κs. search needs)
+    (λ c κs. search needs)
     returns-2)

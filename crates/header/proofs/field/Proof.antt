@@ -4,11 +4,8 @@ use Rattle.header.proofs.Fields.{field-at}
 use Rattle.header.proofs.field.Statement.{statement}
 use Rattle.header.proofs.field.Tie as tie
 
-byte-at-requires : tie.Need-byte-at-requires
-byte-at-requires c κs = search needs
-
 returns : tie.Need-returns
 returns c = search field-at
 
 pub field-spec : {M : Type 1} → statement M
-field-spec = tie.close (tie.spec byte-at-requires returns)
+field-spec = tie.close (tie.spec (λ c κs. search needs) returns)

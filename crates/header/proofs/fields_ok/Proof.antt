@@ -8,9 +8,6 @@ use Rattle.header.proofs.Fields.{peers-most}
 use Rattle.header.proofs.fields_ok.Statement.{statement}
 use Rattle.header.proofs.fields_ok.Tie as tie
 
-threshold-ok-requires : tie.Need-threshold-ok-requires
-threshold-ok-requires c κs = search needs
-
 returns : tie.Need-returns
 unfolding fieldsOk
 returns c = fails _ (c .before .threshold-ok .ensures) (c .if1 .taken)
@@ -24,9 +21,6 @@ returns-2 c =
     let threshold = c .before .before in
     holds _ _ (threshold .before .threshold-ok .ensures) (threshold .if1 .left)
     (fails _ (c .before .none-above .ensures) (c .if2 .taken))
-
-is-between-requires : tie.Need-is-between-requires
-is-between-requires c κs = search needs
 
 returns-3 : tie.Need-returns-3
 unfolding fieldsOk
@@ -50,10 +44,10 @@ pub fields-ok-spec : {M : Type 1} → statement M
 fields-ok-spec =
     tie.close
     (tie.spec
-    threshold-ok-requires
+    (λ c κs. search needs)
     returns
     none-above-requires
     returns-2
-    is-between-requires
+    (λ c κs. search needs)
     returns-3
     returns-4)

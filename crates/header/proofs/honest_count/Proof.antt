@@ -22,9 +22,6 @@ loop-holds c = (omega arith, omega arith, count-none _)
 add-k : tie.Need-add-k Inv-loop μ-loop
 add-k c = omega arith
 
-is-honest-requires : tie.Need-is-honest-requires Inv-loop μ-loop
-is-honest-requires c κs = search needs
-
 add-count : tie.Need-add-count Inv-loop μ-loop
 add-count c = omega arith
 
@@ -59,7 +56,7 @@ honest-count-spec =
     μ-loop
     loop-holds
     add-k
-    is-honest-requires
+    (λ c κs. search needs)
     add-count
     loop-less
     loop-again

@@ -8,9 +8,6 @@ use Rattle.base.proofs.Returns.{fails, holds}
 use Rattle.header.proofs.threshold_ok.Statement.{statement}
 use Rattle.header.proofs.threshold_ok.Tie as tie
 
-is-between-requires : tie.Need-is-between-requires
-is-between-requires c κs = search needs
-
 returns : tie.Need-returns
 unfolding thresholdOk
 returns c = fails _ (c .before .is-between .ensures) (c .if1 .taken)
@@ -18,9 +15,6 @@ returns c = fails _ (c .before .is-between .ensures) (c .if1 .taken)
 -- the table has an entry for n peers
 least-requires : tie.Need-least-requires
 least-requires c κs = between-true _ _ _ (sym (c .before .is-between .ensures) ∙ not-false _ (c .if1 .left))
-
-is-between-requires-2 : tie.Need-is-between-requires-2
-is-between-requires-2 c κs = search needs
 
 returns-2 : tie.Need-returns-2
 unfolding thresholdOk
@@ -30,4 +24,4 @@ returns-2 c =
     holds _ _ (peers .before .is-between .ensures) (peers .if1 .left) in-range
 
 pub threshold-ok-spec : {M : Type 1} → statement M
-threshold-ok-spec = tie.close (tie.spec is-between-requires returns least-requires is-between-requires-2 returns-2)
+threshold-ok-spec = tie.close (tie.spec (λ c κs. search needs) returns least-requires (λ c κs. search needs) returns-2)

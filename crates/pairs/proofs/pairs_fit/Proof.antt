@@ -18,25 +18,16 @@ Inv-loop s at m k₀ k = (k ≤ m) × (every k (startsAtEnd s at m) ≡ true)
 abbrev μ-loop : tie.MeasureT-loop
 μ-loop s at m k₀ k = m - k
 
-first-offset-requires : tie.Need-first-offset-requires Inv-loop μ-loop
-first-offset-requires c κs = search needs
-
 returns : tie.Need-returns Inv-loop μ-loop
 returns c = pairs-short _ _ _ (omega arith)
 
 loop-holds : tie.Need-loop-holds Inv-loop μ-loop
 loop-holds c = (omega arith, every-none _)
 
-starts-at-end-requires : tie.Need-starts-at-end-requires Inv-loop μ-loop
-starts-at-end-requires c κs = search needs
-
 returns-2 : tie.Need-returns-2 Inv-loop μ-loop
 returns-2 c =
     let l = c .before .before .before .loop in
     pairs-whole _ _ _ (omega arith) (one-fails _ (l .k) _ (omega arith) (c .before .starts-at-end .ensures) (c .if2 .taken))
-
-add-k : tie.Need-add-k Inv-loop μ-loop
-add-k c = search needs
 
 loop-less : tie.Need-loop-less Inv-loop μ-loop
 loop-less c = omega arith
@@ -55,12 +46,12 @@ pairs-fit-spec =
     (tie.spec
     Inv-loop
     μ-loop
-    first-offset-requires
+    (λ c κs. search needs)
     returns
     loop-holds
-    starts-at-end-requires
+    (λ c κs. search needs)
     returns-2
-    add-k
+    (λ c. search needs)
     loop-less
     loop-again
     returns-3)

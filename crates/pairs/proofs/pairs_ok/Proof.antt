@@ -5,15 +5,9 @@ use Rattle.base.proofs.Returns.{fails, holds}
 use Rattle.pairs.proofs.pairs_ok.Statement.{statement}
 use Rattle.pairs.proofs.pairs_ok.Tie as tie
 
-pairs-fit-requires : tie.Need-pairs-fit-requires
-pairs-fit-requires c κs = search needs
-
 returns : tie.Need-returns
 unfolding pairsOk
 returns c = fails _ (c .before .pairs-fit .ensures) (c .if1 .taken)
-
-last-end-requires : tie.Need-last-end-requires
-last-end-requires c κs = search needs
 
 returns-2 : tie.Need-returns-2
 unfolding pairsOk
@@ -22,4 +16,4 @@ returns-2 c =
     holds _ _ (fit .before .pairs-fit .ensures) (fit .if1 .left) (simp (c .last-end .ensures))
 
 pub pairs-ok-spec : {M : Type 1} → statement M
-pairs-ok-spec = tie.close (tie.spec pairs-fit-requires returns last-end-requires returns-2)
+pairs-ok-spec = tie.close (tie.spec (λ c κs. search needs) returns (λ c κs. search needs) returns-2)

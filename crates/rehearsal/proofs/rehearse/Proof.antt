@@ -10,7 +10,8 @@ returns : tie.Need-returns
 returns c =
     let line = c .before .before in
     let judged = line .before .before .before in
-    refused _ _ _ (judged .check-lent .ensures) (line .before .before .if1 .taken) (line .put-refused .ensures) refl
+    let entry = judged .before .before .before .before .before in
+    refused _ _ _ (entry .good .1 .1 .0 .0) (judged .check-lent .ensures) (line .before .before .if1 .taken) (line .put-refused .ensures) refl
 
 play-requires : tie.Need-play-requires
 play-requires c κs =
@@ -23,7 +24,8 @@ returns-2 : tie.Need-returns-2
 returns-2 c =
     let play = c .before .before .before .before in
     let judged = play .before .before .before .before .before in
-    reports _ _ _ (judged .check-lent .ensures) (play .before .before .before .before .if1 .left) (play .play .ensures)
+    let entry = judged .before .before .before .before .before in
+    reports _ _ _ (entry .good .1 .1 .0 .0) (judged .check-lent .ensures) (play .before .before .before .before .if1 .left) (play .play .ensures)
 
 pub rehearse-spec : {M : Type 1} → statement M
 rehearse-spec =

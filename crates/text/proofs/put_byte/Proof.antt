@@ -8,7 +8,7 @@ returns : tie.Need-returns
 returns c = byte-in _ _ _
 
 returns-2 : tie.Need-returns-2
-returns-2 c = byte-out _ _ _ _ (c .before .if1 .left) (c .wrapping-add-usize .ensures)
+returns-2 c = byte-out _ _ _ _ (c .before .if1 .left) (c .next-place .ensures)
 
 pub put-byte-spec : {M : Type 1} → statement M
 put-byte-spec =

@@ -6,8 +6,5 @@ use Rattle.ballot.proofs.item.good_if.Tie as tie
 returns : tie.Need-returns
 returns c = cc
 
-returns-2 : tie.Need-returns-2
-returns-2 c = search needs
-
 pub good-if-spec : {M : Type 1} → statement M
-good-if-spec = tie.close (tie.spec returns returns-2)
+good-if-spec = tie.close (tie.spec returns (λ c. search needs))

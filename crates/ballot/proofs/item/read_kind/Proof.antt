@@ -11,24 +11,15 @@ returns : tie.Need-returns
 unfolding readKind
 returns c = rw (eq-eqb _ _ (c .before .if1 .taken), lt-leb _ _ (c .if2 .taken))
 
-good-if-requires : tie.Need-good-if-requires
-good-if-requires c κs = search needs
-
 -- a vote with some
 returns-2 : tie.Need-returns-2
 unfolding readKind
 returns-2 c = c .good-if .ensures ∙ rw (eq-eqb _ _ (c .before .before .if1 .taken), le-leb _ _ (c .before .if2 .left))
 
-good-if-requires-2 : tie.Need-good-if-requires-2
-good-if-requires-2 c κs = search needs
-
 -- an audit
 returns-3 : tie.Need-returns-3
 unfolding readKind
 returns-3 c = c .good-if2 .ensures ∙ rw (ne-eqb _ _ (c .before .before .if1 .left), eq-eqb _ _ (c .before .if3 .taken))
-
-good-if-requires-3 : tie.Need-good-if-requires-3
-good-if-requires-3 c κs = search needs
 
 -- a cancellation
 returns-4 : tie.Need-returns-4
@@ -50,10 +41,10 @@ read-kind-spec =
     tie.close
     (tie.spec
     returns
-    good-if-requires
+    (λ c κs. search needs)
     returns-2
-    good-if-requires-2
+    (λ c κs. search needs)
     returns-3
-    good-if-requires-3
+    (λ c κs. search needs)
     returns-4
     returns-5)

@@ -4,17 +4,11 @@ use Rattle.ballot.proofs.Marked.{unseen-new}
 use Rattle.ballot.proofs.twins.is_new.Statement.{statement}
 use Rattle.ballot.proofs.twins.is_new.Tie as tie
 
-byte-at-requires : tie.Need-byte-at-requires
-byte-at-requires c κs = search needs
-
 returns : tie.Need-returns
 returns c = search unseen-new
-
-new-at-requires : tie.Need-new-at-requires
-new-at-requires c κs = search needs
 
 returns-2 : tie.Need-returns-2
 returns-2 c = c .new-at .ensures
 
 pub is-new-spec : {M : Type 1} → statement M
-is-new-spec = tie.close (tie.spec byte-at-requires returns new-at-requires returns-2)
+is-new-spec = tie.close (tie.spec (λ c κs. search needs) returns (λ c κs. search needs) returns-2)

@@ -18,14 +18,8 @@ abbrev μ-loop : tie.MeasureT-loop
 loop-holds : tie.Need-loop-holds Inv-loop μ-loop
 loop-holds c = (omega arith, mark-none _)
 
-shared-slice-read-mark-next : tie.Need-shared-slice-read-mark-next Inv-loop μ-loop
-shared-slice-read-mark-next c = search needs
-
 mark-next-requires : tie.Need-mark-next-requires Inv-loop μ-loop
 mark-next-requires c κs = search mark-lt
-
-add-i : tie.Need-add-i Inv-loop μ-loop
-add-i c = search needs
 
 loop-less : tie.Need-loop-less Inv-loop μ-loop
 loop-less c = omega arith
@@ -43,9 +37,9 @@ mark-of-spec =
     Inv-loop
     μ-loop
     loop-holds
-    shared-slice-read-mark-next
+    (λ c. search needs)
     mark-next-requires
-    add-i
+    (λ c. search needs)
     loop-less
     loop-again
     returns)

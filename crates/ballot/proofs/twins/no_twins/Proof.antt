@@ -19,20 +19,8 @@ Inv-loop table m seen₀ j₀ seen j = (j ≤ m) × Seen table seen j × (every 
 abbrev μ-loop : tie.MeasureT-loop
 μ-loop table m seen₀ j₀ seen j = m - j
 
-items-requires : tie.Need-items-requires Inv-loop μ-loop
-items-requires c κs = search needs
-
 loop-holds : tie.Need-loop-holds Inv-loop μ-loop
 loop-holds c = (omega arith, seen-none _, every-none _)
-
-mark-at-requires : tie.Need-mark-at-requires Inv-loop μ-loop
-mark-at-requires c κs = search needs
-
-slice-aggregate-is-new : tie.Need-slice-aggregate-is-new Inv-loop μ-loop
-slice-aggregate-is-new c = search needs
-
-is-new-requires : tie.Need-is-new-requires Inv-loop μ-loop
-is-new-requires c κs = search needs
 
 returns : tie.Need-returns Inv-loop μ-loop
 unfolding noTwins
@@ -42,9 +30,6 @@ returns c =
 
 array-write-seen : tie.Need-array-write-seen Inv-loop μ-loop
 array-write-seen c = search mark-fits
-
-add-j : tie.Need-add-j Inv-loop μ-loop
-add-j c = search needs
 
 loop-less : tie.Need-loop-less Inv-loop μ-loop
 loop-less c = omega arith
@@ -62,14 +47,14 @@ no-twins-spec =
     (tie.spec
     Inv-loop
     μ-loop
-    items-requires
+    (λ c κs. search needs)
     loop-holds
-    mark-at-requires
-    slice-aggregate-is-new
-    is-new-requires
+    (λ c κs. search needs)
+    (λ c. search needs)
+    (λ c κs. search needs)
     returns
     array-write-seen
-    add-j
+    (λ c. search needs)
     loop-less
     loop-again
     returns-2)

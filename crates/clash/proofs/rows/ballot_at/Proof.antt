@@ -4,15 +4,9 @@ use Rattle.clash.specs.Clash.{ballotAt}
 use Rattle.clash.proofs.rows.ballot_at.Statement.{statement}
 use Rattle.clash.proofs.rows.ballot_at.Tie as tie
 
-item-at-requires : tie.Need-item-at-requires
-item-at-requires c κs = search needs
-
-ballot-requires : tie.Need-ballot-requires
-ballot-requires c κs = search needs
-
 returns : tie.Need-returns
 unfolding ballotAt
 returns c = simp (c .before .item-at .ensures) at (c .ballot .ensures)
 
 pub ballot-at-spec : {M : Type 1} → statement M
-ballot-at-spec = tie.close (tie.spec item-at-requires ballot-requires returns)
+ballot-at-spec = tie.close (tie.spec (λ c κs. search needs) (λ c κs. search needs) returns)

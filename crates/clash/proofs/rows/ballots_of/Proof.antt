@@ -12,29 +12,8 @@ Inv-loop table width ballots₀ k₀ ballots k = BallotsTo table k ballots
 abbrev μ-loop : tie.MeasureT-loop
 μ-loop table width ballots₀ k₀ ballots k = width - k
 
-mask-width-requires : tie.Need-mask-width-requires Inv-loop μ-loop
-mask-width-requires c κs = search needs
-
 loop-holds : tie.Need-loop-holds Inv-loop μ-loop
 loop-holds c = no-ballots _
-
-ballot-at-requires : tie.Need-ballot-at-requires Inv-loop μ-loop
-ballot-at-requires c κs = search needs
-
-cast-ballots : tie.Need-cast-ballots Inv-loop μ-loop
-cast-ballots c = search needs
-
-mul-ballots : tie.Need-mul-ballots Inv-loop μ-loop
-mul-ballots c = search needs
-
-array-write-ballots : tie.Need-array-write-ballots Inv-loop μ-loop
-array-write-ballots c = search needs
-
-add-k : tie.Need-add-k Inv-loop μ-loop
-add-k c = search needs
-
-loop-less : tie.Need-loop-less Inv-loop μ-loop
-loop-less c = search needs
 
 loop-again : tie.Need-loop-again Inv-loop μ-loop
 loop-again c = one-ballot _ _ _ (c .before .before .loop .inv) (omega arith) (c .ballot-at .ensures)
@@ -48,13 +27,13 @@ ballots-of-spec =
     (tie.spec
     Inv-loop
     μ-loop
-    mask-width-requires
+    (λ c κs. search needs)
     loop-holds
-    ballot-at-requires
-    cast-ballots
-    mul-ballots
-    array-write-ballots
-    add-k
-    loop-less
+    (λ c κs. search needs)
+    (λ c. search needs)
+    (λ c. search needs)
+    (λ c. search needs)
+    (λ c. search needs)
+    (λ c. search needs)
     loop-again
     returns)

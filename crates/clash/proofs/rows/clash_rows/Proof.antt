@@ -14,29 +14,8 @@ Inv-loop table ballots rows₀ i₀ rows i = FilledTo 0 64 (clashMask table) i r
 abbrev μ-loop : tie.MeasureT-loop
 μ-loop table ballots rows₀ i₀ rows i = 64 - i
 
-ballots-of-requires : tie.Need-ballots-of-requires Inv-loop μ-loop
-ballots-of-requires c κs = search needs
-
 loop-holds : tie.Need-loop-holds Inv-loop μ-loop
 loop-holds c = none-made _
-
-mask-by-requires : tie.Need-mask-by-requires Inv-loop μ-loop
-mask-by-requires c κs = search needs
-
-cast-rows : tie.Need-cast-rows Inv-loop μ-loop
-cast-rows c = search needs
-
-mul-rows : tie.Need-mul-rows Inv-loop μ-loop
-mul-rows c = search needs
-
-array-write-rows : tie.Need-array-write-rows Inv-loop μ-loop
-array-write-rows c = search needs
-
-add-i : tie.Need-add-i Inv-loop μ-loop
-add-i c = search needs
-
-loop-less : tie.Need-loop-less Inv-loop μ-loop
-loop-less c = search needs
 
 loop-again : tie.Need-loop-again Inv-loop μ-loop
 loop-again c = search filled-more
@@ -50,13 +29,13 @@ clash-rows-spec =
     (tie.spec
     Inv-loop
     μ-loop
-    ballots-of-requires
+    (λ c κs. search needs)
     loop-holds
-    mask-by-requires
-    cast-rows
-    mul-rows
-    array-write-rows
-    add-i
-    loop-less
+    (λ c κs. search needs)
+    (λ c. search needs)
+    (λ c. search needs)
+    (λ c. search needs)
+    (λ c. search needs)
+    (λ c. search needs)
     loop-again
     returns)

@@ -15,20 +15,11 @@ Inv-loop table ballots i ballot width mask₀ j₀ mask j = (j ≤ width) × (ma
 abbrev μ-loop : tie.MeasureT-loop
 μ-loop table ballots i ballot width mask₀ j₀ mask j = width - j
 
-ballot-at-requires : tie.Need-ballot-at-requires Inv-loop μ-loop
-ballot-at-requires c κs = search needs
-
-mask-width-requires : tie.Need-mask-width-requires Inv-loop μ-loop
-mask-width-requires c κs = search needs
-
 loop-holds : tie.Need-loop-holds Inv-loop μ-loop
 loop-holds c = (omega arith, bits-none _)
 
 add-j : tie.Need-add-j Inv-loop μ-loop
 add-j c = omega arith
-
-clashes-at-requires : tie.Need-clashes-at-requires Inv-loop μ-loop
-clashes-at-requires c κs = search needs
 
 worth-requires : tie.Need-worth-requires Inv-loop μ-loop
 worth-requires c κs = omega arith
@@ -67,11 +58,11 @@ mask-by-spec =
     (tie.spec
     Inv-loop
     μ-loop
-    ballot-at-requires
-    mask-width-requires
+    (λ c κs. search needs)
+    (λ c κs. search needs)
     loop-holds
     add-j
-    clashes-at-requires
+    (λ c κs. search needs)
     worth-requires
     add-mask
     loop-less

@@ -4,11 +4,8 @@ use Rattle.base.proofs.Masks.{shifted}
 use Rattle.clash.proofs.rows.worth.Statement.{statement}
 use Rattle.clash.proofs.rows.worth.Tie as tie
 
-shl-result : tie.Need-shl-result
-shl-result c = search needs
-
 returns : tie.Need-returns
 returns c = shifted 64 _ (c .pre)
 
 pub worth-spec : {M : Type 1} → statement M
-worth-spec = tie.close (tie.spec shl-result returns)
+worth-spec = tie.close (tie.spec (λ c. search needs) returns)

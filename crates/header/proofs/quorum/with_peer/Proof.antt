@@ -13,17 +13,9 @@ returns c = peer-none _ _ (c .if1 .taken)
 returns-2 : tie.Need-returns-2
 returns-2 c = peer-high _ _ (c .if2 .taken)
 
-sub-result : tie.Need-sub-result
-sub-result c = search needs
-
-cast-result : tie.Need-cast-result
-cast-result c = search needs
-
-shl-result : tie.Need-shl-result
-shl-result c = search needs
-
 returns-3 : tie.Need-returns-3
-returns-3 c = let a = c .before .before .args in rw (shifted 16 (a .k - 1) (omega (arith, c .if2 .left))) (peer-more (a .set) (a .k) (c .before .if1 .left) (c .if2 .left))
+returns-3 c = let a = c .before .before .args in rw (shifted 16 (a .k - 1) (omega (arith, c .if2 .left)))
+    (peer-more (a .set) (a .k) (c .before .if1 .left) (c .if2 .left))
 
 pub with-peer-spec : {M : Type 1} → statement M
-with-peer-spec = tie.close (tie.spec returns returns-2 sub-result cast-result shl-result returns-3)
+with-peer-spec = tie.close (tie.spec returns returns-2 (λ c. search needs) (λ c. search needs) (λ c. search needs) returns-3)

@@ -16,12 +16,12 @@ returns c =
     let steps = shown .before .before .before .before .before .before .before in
     let first = steps .before .before .before .before .before in
     let given = first .before .before .before .before .before .before .before .before .pre in
-    whole-report (given .0) (steps .run .ensures) (first .before .honest-count .ensures) (first .put-head .ensures) (shown .put-state .ensures)
+    whole-report (given .0) (steps .run .ensures) (first .before .honest-count .ensures) (first .put-head .ensures)
+    (shown .put-state .ensures)
 
 pub tell-spec : {M : Type 1} → statement M
 tell-spec =
-    tie.close
-    (tie.spec
+    tie.close (tie.spec
     (λ c κs. search needs)
     (λ c κs. search needs)
     (λ c κs. search needs)
