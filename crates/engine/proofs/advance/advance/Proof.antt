@@ -10,53 +10,38 @@ returns-2 c = search of-hand
 
 pub advance-spec : {M : Type 1} → statement M
 advance-spec =
-    let ballots =
-    tie.spec
+    tie.close
+    (tie.spec
     (λ c. search needs) (λ c κs. search needs)
     (λ c. search needs) (λ c κs. search needs) (λ c κs. search needs)
     (λ c. search needs) (λ c κs. search needs)
     (λ c. search needs) (λ c κs. search needs)
     (λ c. search needs) (λ c κs. search needs)
     (λ c. search needs) (λ c κs. search needs)
-    in
-    let closing =
-    ballots
     (λ c. search needs) (λ c κs. search needs)
     (λ c. search needs) (λ c κs. search needs)
     (λ c. search needs) (λ c κs. search needs)
     (λ c. search needs) (λ c κs. search needs)
     (λ c. search needs) (λ c κs. search needs)
     (λ c. search needs) (λ c κs. search needs)
-    in
-    let called =
-    closing
     (λ c. search needs) (λ c κs. search needs)
     (λ c. search needs) (λ c κs. search needs)
     (λ c. search needs) (λ c κs. search needs)
     (λ c. search needs) (λ c κs. search needs)
     (λ c. search needs) (λ c κs. search needs)
     (λ c. search needs) (λ c κs. search needs)
-    in
-    let after-ballots =
-    called
     (λ c. search needs) (λ c. search of-step)
     (λ c. search needs) returns-2
     (λ c. search needs) (λ c. search of-step)
     (λ c. search needs) (λ c. search of-step)
     (λ c. search needs) (λ c. search of-step)
     (λ c. search needs) (λ c. search of-step)
-    in
-    let after-closing =
-    after-ballots
     (λ c. search needs) (λ c. search of-step)
     (λ c. search needs) (λ c. search of-step)
     (λ c. search needs) (λ c. search of-step)
     (λ c. search needs) (λ c. search of-step)
     (λ c. search needs) (λ c. search of-step)
     (λ c. search needs) (λ c. search of-step)
-    in
-    tie.close
-    (after-closing
     (λ c. search needs) (λ c. search of-step)
     (λ c. search needs) (λ c. search of-step)
     (λ c. search needs) (λ c. search of-step)
