@@ -9,7 +9,7 @@ use borrow.Author.Tests.{eqb-true}
 use Rattle.base.proofs.Truth.{either}
 use Rattle.base.proofs.Sets.{old1, old3, new3, grow-row}
 use Rattle.rules.specs.declared.Step.{Step}
-use Rattle.rules.specs.declared.Step.the-variants.{Post, Hand, Sign, Take, Share, Receipt, Close, Fetch, SendHash, Hear, Back, Publish, FalseSignature, FalseShare, FalseHash, FalseBacking, Down, Up}
+use Rattle.rules.specs.declared.Step.the-variants.{Post, Hand}
 use Rattle.rules.specs.Table.{Table}
 use Rattle.rules.specs.State.{State}
 use Rattle.rules.specs.Rules.{rule, answer, next}
@@ -17,6 +17,7 @@ use Rattle.rules.proofs.Answered.{Clear, answered, judged}
 use Rattle.rules.proofs.Clashing.{Apart, apart-test, test-apart}
 use Rattle.rules.proofs.Repeat.{repeated}
 use Rattle.edges.specs.Steps.{after}
+use Rattle.rules.proofs.Each.{each}
 
 -- x is posted, j holds it in p, and nothing that j holds clashes with it
 pub record Settled (T : Table) (j p x : ℕ) (posted : ℕ → Bool) (held : ℕ → ℕ → ℕ → Bool) : Type 0 where
@@ -39,26 +40,13 @@ module _ (T : Table) (j p x : ℕ) (sy : (y : ℕ) → T .clash x y ≡ T .clash
         (λ q z h l m. I .apart q z l m h) q z h l m;
   }
 
+  post-settled : (s : State) → Now s → (y : ℕ) → Now (rule T s (Post y) .effect)
+  unfolding rule
+  post-settled s I y = record { is-posted = old1 y (s .posted) x (I .is-posted); is-held = I .is-held; apart = I .apart }
+
   step-settled : (s : State) → Now s → (st : Step) → Clear T s st → Now (rule T s st .effect)
   unfolding rule
-  step-settled s I (Post y) c = record { is-posted = old1 y (s .posted) x (I .is-posted); is-held = I .is-held; apart = I .apart }
-  step-settled s I (Hand k y) c = hand-settled s I k y c
-  step-settled s I (Sign k y) c = I
-  step-settled s I (Take k l q y) c = I
-  step-settled s I (Share k y) c = I
-  step-settled s I (Receipt q y) c = I
-  step-settled s I (Close k) c = I
-  step-settled s I (Fetch k l q) c = I
-  step-settled s I (SendHash k q) c = I
-  step-settled s I (Hear k e) c = I
-  step-settled s I (Back k) c = I
-  step-settled s I (Publish e) c = I
-  step-settled s I (FalseSignature k q y) c = I
-  step-settled s I (FalseShare k q y) c = I
-  step-settled s I (FalseHash k q B) c = I
-  step-settled s I (FalseBacking k q B) c = I
-  step-settled s I (Down k) c = I
-  step-settled s I (Up k) c = I
+  step-settled s I = each (λ st. Clear T s st → Now (rule T s st .effect)) (search (post-settled s I, hand-settled s I))
 
   next-settled : (s : State) → Now s → (st : Step) → Now (next T s st)
   unfolding next

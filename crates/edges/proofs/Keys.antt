@@ -5,11 +5,12 @@ use mathlib.Core.Path.{_≡_, refl, ap}
 use lib.Dec.{eqb}
 use Rattle.base.specs.Refusals.{Refusals, numbered, first}
 use Rattle.rules.specs.declared.Step.{Step}
-use Rattle.rules.specs.declared.Step.the-variants.{Post, Hand, Sign, Take, Share, Receipt, Close, Fetch, SendHash, Hear, Back, Publish, FalseSignature, FalseShare, FalseHash, FalseBacking, Down, Up}
+use Rattle.rules.specs.declared.Step.the-variants.{Receipt}
 use Rattle.rules.specs.Table.{Table}
 use Rattle.rules.specs.State.{State, with-shared}
 use Rattle.rules.specs.Rules.{rule, answer, next}
 use Rattle.edges.specs.Exact.{sharesAside}
+use Rattle.rules.proofs.Each.{each}
 
 -- a step that is taken in both of two states, or refused in both
 both : (b : Bool) (s t u v : State) → sharesAside s ≡ sharesAside u → sharesAside t ≡ sharesAside v
@@ -21,27 +22,16 @@ module _ (T : Table) (s : State) (shared : ℕ → ℕ → ℕ → Bool) where
   abbrev u : State
   u = with-shared s shared
 
-  same-rule : (st : Step) → ((p x : ℕ) → st ≡ Receipt p x → ⊥)
+  abbrev Same : Step → Type 0
+  Same st = ((p x : ℕ) → st ≡ Receipt p x → ⊥)
       → (rule T u st .refusals ≡ rule T s st .refusals) × (sharesAside (rule T u st .effect) ≡ sharesAside (rule T s st .effect))
+
+  not-receipt : (p x : ℕ) → Same (Receipt p x)
+  not-receipt p x n = absurd (n p x refl)
+
+  same-rule : (st : Step) → Same st
   unfolding rule
-  same-rule (Post x) n = (refl, refl)
-  same-rule (Hand j x) n = (refl, refl)
-  same-rule (Sign j x) n = (refl, refl)
-  same-rule (Take j k p x) n = (refl, refl)
-  same-rule (Share j x) n = (refl, refl)
-  same-rule (Receipt p x) n = absurd (n p x refl)
-  same-rule (Close j) n = (refl, refl)
-  same-rule (Fetch j k p) n = (refl, refl)
-  same-rule (SendHash j p) n = (refl, refl)
-  same-rule (Hear j e) n = (refl, refl)
-  same-rule (Back j) n = (refl, refl)
-  same-rule (Publish e) n = (refl, refl)
-  same-rule (FalseSignature j p x) n = (refl, refl)
-  same-rule (FalseShare j p x) n = (refl, refl)
-  same-rule (FalseHash j p B) n = (refl, refl)
-  same-rule (FalseBacking j p B) n = (refl, refl)
-  same-rule (Down j) n = (refl, refl)
-  same-rule (Up j) n = (refl, refl)
+  same-rule = each Same (search (not-receipt, refl))
 
   pub shares-unseen : (st : Step) → ((p x : ℕ) → st ≡ Receipt p x → ⊥)
       → (answer T u st ≡ answer T s st) × (sharesAside (next T u st) ≡ sharesAside (next T s st))

@@ -11,12 +11,13 @@ use Rattle.base.proofs.Bits.{bit-pack}
 use Rattle.header.specs.Header.{itemsOf}
 use Rattle.clash.specs.Clash.{clashIn, maskWidth, clashMask}
 use Rattle.rules.specs.declared.Step.{Step}
-use Rattle.rules.specs.declared.Step.the-variants.{Post, Hand, Sign, Take, Share, Receipt, Close, Fetch, SendHash, Hear, Back, Publish, FalseSignature, FalseShare, FalseHash, FalseBacking, Down, Up}
+use Rattle.rules.specs.declared.Step.the-variants.{Hand}
 use Rattle.rules.specs.Table.{clashing}
 use Rattle.rules.specs.State.{State}
 use Rattle.rules.specs.Fields.{Fields, fields}
 use Rattle.rules.specs.ByRow.{oneOf, byRow}
 use Rattle.rules.proofs.ByRow.{by-row}
+use Rattle.rules.proofs.Each.{each}
 use Rattle.rules.specs.Rules.{rule, answer, boardFrom}
 use Rattle.state.specs.Contents.{contents}
 use Rattle.header.specs.declared.Head.{Head}
@@ -52,24 +53,7 @@ module _ (h : Head) (c d : ℕ → ℕ → Bool) (s : List ℕ) where
   -- what a step does is the same whatever clashes
   same-effect : (st : Step) → effectOn (tableOf h c) (contents s) st ≡ effectOn (tableOf h d) (contents s) st
   unfolding effectOn boardFrom
-  same-effect (Post x) = refl
-  same-effect (Hand j x) = refl
-  same-effect (Sign j x) = refl
-  same-effect (Take j k p x) = refl
-  same-effect (Share j x) = refl
-  same-effect (Receipt p x) = refl
-  same-effect (Close j) = refl
-  same-effect (Fetch j k p) = refl
-  same-effect (SendHash j p) = refl
-  same-effect (Hear j e) = refl
-  same-effect (Back j) = refl
-  same-effect (Publish e) = refl
-  same-effect (FalseSignature j p x) = refl
-  same-effect (FalseShare j p x) = refl
-  same-effect (FalseHash j p B) = refl
-  same-effect (FalseBacking j p B) = refl
-  same-effect (Down j) = refl
-  same-effect (Up j) = refl
+  same-effect = each (λ st. effectOn (tableOf h c) (contents s) st ≡ effectOn (tableOf h d) (contents s) st) (search refl)
 
   stepped-too : (t : List ℕ) (st : Step) (r : ℕ) → answerOn h c s st ≡ answerOn h d s st → Stepped h c s t st r → Stepped h d s t st r
   stepped-too t st r e S = record { answers = S .answers ∙ e; leaves = rw (← same-effect st) (S .leaves) }

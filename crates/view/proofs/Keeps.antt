@@ -10,13 +10,14 @@ use borrow.Author.Tests.{eqb-true}
 use Rattle.base.proofs.Truth.{false-true, either, and-r}
 use Rattle.rules.specs.declared.Entry.{Entry}
 use Rattle.rules.specs.declared.Step.{Step}
-use Rattle.rules.specs.declared.Step.the-variants.{Post, Hand, Sign, Take, Share, Receipt, Close, Fetch, SendHash, Hear, Back, Publish, FalseSignature, FalseShare, FalseHash, FalseBacking, Down, Up}
+use Rattle.rules.specs.declared.Step.the-variants.{Hear, Back, Down, Up}
 use Rattle.rules.specs.Table.{Table}
 use Rattle.rules.specs.Bag.{isIn, isHash, entryAt}
 use Rattle.rules.specs.Rules.{rule}
 use Rattle.rules.specs.Valid.{Valid}
 use Rattle.rules.proofs.Answered.{Clear, judged}
 use Rattle.rules.proofs.Valid.{keeps-valid}
+use Rattle.rules.proofs.Each.{each}
 use Rattle.state.specs.declared.Fact.the-variants.{Heard}
 use Rattle.state.specs.declared.Number.the-variants.{DownOf}
 use Rattle.state.specs.Contents.{Contents, adding, insert, store, withEntry}
@@ -64,29 +65,29 @@ module _ (c : Contents) (S : Sound c) where
       go k true = h
       go k false = S .flags k
 
-keeps-sound : (T : Table) (c : Contents) (st : Step) → Sound c → Clear T (stateOf c) st → Sound (effectOn T c st)
+hears : (T : Table) (c : Contents) → Sound c → (j e : ℕ) → Clear T (stateOf c) (Hear j e) → Sound (effectOn T c (Hear j e))
+unfolding effectOn rule
+hears T c S j e h = hear-sound c S j e (search judged)
+
+backs : (T : Table) (c : Contents) → Sound c → (j : ℕ) → Sound (effectOn T c (Back j))
+unfolding effectOn store
+backs T c S j = untouched (enterOn _ c) (enter-sound c S _) _ (λ j e. refl) (λ j. refl) refl
+
+downs : (T : Table) (c : Contents) → Sound c → (j : ℕ) → Sound (effectOn T c (Down j))
+unfolding effectOn
+downs T c S j = down-sound c S j 1 (omega arith)
+
+ups : (T : Table) (c : Contents) → Sound c → (j : ℕ) → Sound (effectOn T c (Up j))
+unfolding effectOn
+ups T c S j = down-sound c S j 0 (omega arith)
+
+keeps-sound : (T : Table) (c : Contents) → Sound c → (st : Step) → Clear T (stateOf c) st → Sound (effectOn T c st)
 unfolding effectOn rule insert adding store fetched knownTo
-keeps-sound T c (Post x) S h = untouched c S _ (λ j e. refl) (λ j. refl) refl
-keeps-sound T c (Hand j x) S h = untouched c S _ (λ j e. refl) (λ j. refl) refl
-keeps-sound T c (Sign j x) S h = untouched c S _ (λ j e. refl) (λ j. refl) refl
-keeps-sound T c (Take j k p x) S h = untouched c S _ (λ j e. refl) (λ j. refl) refl
-keeps-sound T c (Share j x) S h = untouched c S _ (λ j e. refl) (λ j. refl) refl
-keeps-sound T c (Receipt p x) S h = untouched c S _ (λ j e. refl) (λ j. refl) refl
-keeps-sound T c (Close j) S h = untouched c S _ (λ j e. refl) (λ j. refl) refl
-keeps-sound T c (Fetch j k p) S h = untouched c S _ (λ j e. refl) (λ j. refl) refl
-keeps-sound T c (SendHash j p) S h = enter-sound c S _
-keeps-sound T c (Hear j e) S h = hear-sound c S j e (search judged)
-keeps-sound T c (Back j) S h = untouched (enterOn _ c) (enter-sound c S _) _ (λ j e. refl) (λ j. refl) refl
-keeps-sound T c (Publish e) S h = enter-sound c S _
-keeps-sound T c (FalseSignature j p x) S h = untouched c S _ (λ j e. refl) (λ j. refl) refl
-keeps-sound T c (FalseShare j p x) S h = untouched c S _ (λ j e. refl) (λ j. refl) refl
-keeps-sound T c (FalseHash j p B) S h = enter-sound c S _
-keeps-sound T c (FalseBacking j p B) S h = enter-sound c S _
-keeps-sound T c (Down j) S h = down-sound c S j 1 (omega arith)
-keeps-sound T c (Up j) S h = down-sound c S j 0 (omega arith)
+keeps-sound T c S = each (λ st. Clear T (stateOf c) st → Sound (effectOn T c st))
+    (search (hears T c S, backs T c S, downs T c S, ups T c S, enter-sound c S, untouched c S, refl))
 
 pub keeps-good : (T : Table) (c : Contents) (st : Step) → Good T c → Clear T (stateOf c) st → Good T (effectOn T c st)
 keeps-good T c st G h = record {
   valid = subst (λ s. Valid T s) (sym (meets c (G .sound) T st h)) (keeps-valid T (stateOf c) (G .valid) st h);
-  sound = keeps-sound T c st (G .sound) h;
+  sound = keeps-sound T c (G .sound) st h;
 }

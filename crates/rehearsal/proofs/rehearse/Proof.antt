@@ -11,7 +11,8 @@ returns c =
     let line = c .before .before in
     let judged = line .before .before .before in
     let entry = judged .before .before .before .before .before in
-    refused _ _ _ (entry .good .1 .1 .0 .0) (judged .check-lent .ensures) (line .before .before .if1 .taken) (line .put-refused .ensures) refl
+    refused _ _ _ (entry .good .1 .1 .0 .0) (judged .check-lent .ensures) (line .before .before .if1 .taken)
+    (line .put-refused .ensures) refl
 
 play-requires : tie.Need-play-requires
 play-requires c κs =
@@ -25,7 +26,8 @@ returns-2 c =
     let play = c .before .before .before .before in
     let judged = play .before .before .before .before .before in
     let entry = judged .before .before .before .before .before in
-    reports _ _ _ (entry .good .1 .1 .0 .0) (judged .check-lent .ensures) (play .before .before .before .before .if1 .left) (play .play .ensures)
+    reports _ _ _ (entry .good .1 .1 .0 .0) (judged .check-lent .ensures) (play .before .before .before .before .if1 .left)
+    (play .play .ensures)
 
 pub rehearse-spec : {M : Type 1} → statement M
 rehearse-spec =
