@@ -3,8 +3,13 @@
 use engine::{Engine, PLAIN, PROVED};
 
 /// Its counts are those of the driver alone.
-const NONE: Engine =
-    Engine { name: "none", fresh: |_, _| 0, step: |_, _, _| 0, rehearse: |_, _, _| 0 };
+const NONE: Engine = Engine {
+    name: "none",
+    check_table: |_| 0,
+    fresh: |_, _| 0,
+    step: |_, _, _| 0,
+    rehearse: |_, _, _| 0,
+};
 
 pub fn by_name(name: &str) -> Option<Engine> {
     [PLAIN, PROVED, NONE].into_iter().find(|engine| engine.name == name)
