@@ -21,7 +21,7 @@ use Rattle.header.specs.declared.Head.{Head}
 use Rattle.valid.specs.StateOk.{stateOk}
 use Rattle.view.specs.Ready.{Room, Ready}
 use Rattle.valid.proofs.Ready.{ready-of-ok, ok-of-ready}
-use Rattle.steps.specs.Stepped.{Stepped}
+use Rattle.steps.specs.Stepped.{SteppedBy}
 use Rattle.engine.specs.Engine.{Prepared, leaveOn, stepAnswer, stepBytes, freshAnswer, freshBytes, freshState}
 
 module _ (table : List ℕ) {r : ℕ} (checked : r ≡ refusal table) where
@@ -80,10 +80,10 @@ module _ {table : List ℕ} {h : Head} {rows : List ℕ} (P : Prepared table h r
   form-refused c e m = (rw (P .taken, state-taken, sym e, m), rw (P .taken, state-taken, sym e, m))
 
   pub step-judged : (c : Call) → c ≡ read step → (st : Step) → c ≡ Formed st → (t : List ℕ) (a : ℕ)
-      → Stepped h (clashIn table) s t st a → (a ≡ stepAnswer table s step) × (t ≡ stepBytes table s step)
+      → SteppedBy h (clashIn table) s t st a → (a ≡ stepAnswer table s step) × (t ≡ stepBytes table s step)
   unfolding stepAnswer stepBytes reply leaveOn
   step-judged c e st m t a p =
-      let q = subst (λ h. Stepped h (clashIn table) s t st a) (P .head) p in
+      let q = subst (λ h. SteppedBy h (clashIn table) s t st a) (P .head) p in
       (rw (P .taken, state-taken, sym e, m) (q .answers), rw (P .taken, state-taken, sym e, m, sym (q .answers)) (q .leaves))
 
 pub items-read : {table : List ℕ} {h : Head} {rows : List ℕ} → Prepared table h rows → h .items ≡ itemsOf table

@@ -21,10 +21,10 @@ use Rattle.rules.proofs.Each.{each}
 use Rattle.rules.specs.Rules.{rule, answer, boardFrom}
 use Rattle.state.specs.Contents.{contents}
 use Rattle.header.specs.declared.Head.{Head}
-use Rattle.view.specs.View.{noClash, inRow, tableOf, stateOf, answerOn}
+use Rattle.view.specs.View.{noClash, inRow, tableOf, stateOf, answerBy}
 use Rattle.view.specs.Effect.{effectOn}
 use Rattle.view.specs.Ready.{Ready}
-use Rattle.steps.specs.Stepped.{Stepped}
+use Rattle.steps.specs.Stepped.{Stepped, SteppedBy}
 
 -- the step is a hand, by its op
 abbrev pub isHand : Step → Bool
@@ -40,13 +40,13 @@ module _ (h : Head) (c d : ℕ → ℕ → Bool) (s : List ℕ) where
   unfolding byRow boardFrom
   same-rows f n = rw n
 
-  not-asked : (st : Step) → isHand st ≡ false → answerOn h c s st ≡ answerOn h d s st
+  not-asked : (st : Step) → isHand st ≡ false → answerBy h c s st ≡ answerBy h d s st
   not-asked st n = by-row (tableOf h c) held st ∙ same-rows (fields st) n ∙ sym (by-row (tableOf h d) held st)
 
   -- a hand is judged by what clashes with its item
   hand-asked : (j x : ℕ)
       → clashing (tableOf h c) (stateOf (contents s) .held j) x ≡ clashing (tableOf h d) (stateOf (contents s) .held j) x
-      → answerOn h c s (Hand j x) ≡ answerOn h d s (Hand j x)
+      → answerBy h c s (Hand j x) ≡ answerBy h d s (Hand j x)
   unfolding answer rule
   hand-asked j x e = rw e
 
@@ -55,13 +55,13 @@ module _ (h : Head) (c d : ℕ → ℕ → Bool) (s : List ℕ) where
   unfolding effectOn boardFrom
   same-effect = each (λ st. effectOn (tableOf h c) (contents s) st ≡ effectOn (tableOf h d) (contents s) st) (search refl)
 
-  stepped-too : (t : List ℕ) (st : Step) (r : ℕ) → answerOn h c s st ≡ answerOn h d s st → Stepped h c s t st r → Stepped h d s t st r
+  stepped-too : (t : List ℕ) (st : Step) (r : ℕ) → answerBy h c s st ≡ answerBy h d s st → SteppedBy h c s t st r → SteppedBy h d s t st r
   stepped-too t st r e S = record { answers = S .answers ∙ e; leaves = rw (← same-effect st) (S .leaves) }
 
 -- the step that the match found, with what clashes in the table
 pub of-step : (h : Head) (clash : ℕ → ℕ → Bool) (s t : List ℕ) (r : ℕ) (a b : Step) → b ≡ a → isHand a ≡ false
-    → Stepped h noClash s t a r → Stepped h clash s t b r
-of-step h clash s t r a b e n S = subst (λ st. Stepped h clash s t st r) (sym e)
+    → Stepped h s t a r → SteppedBy h clash s t b r
+of-step h clash s t r a b e n S = subst (λ st. SteppedBy h clash s t st r) (sym e)
     (stepped-too h noClash clash s t a r (not-asked h noClash clash s a n) S)
 
 -- and the hand, whose item's row was read
@@ -76,6 +76,6 @@ module _ (h : Head) (table s : List ℕ) (R : Ready h s) (same : h .items ≡ it
       ap (λ (b : Bool). stateOf (contents s) .held j p y && b)
       (ap (λ (m : ℕ). bit m y) read ∙ bit-pack (maskWidth table) (clashIn table x) y (omega (arith, R .room .items)))))
 
-  pub of-hand : (t : List ℕ) (r : ℕ) (b : Step) → b ≡ Hand j x → Stepped h (inRow row) s t (Hand j x) r → Stepped h (clashIn table) s t b r
-  of-hand t r b e S = subst (λ st. Stepped h (clashIn table) s t st r) (sym e)
+  pub of-hand : (t : List ℕ) (r : ℕ) (b : Step) → b ≡ Hand j x → SteppedBy h (inRow row) s t (Hand j x) r → SteppedBy h (clashIn table) s t b r
+  of-hand t r b e S = subst (λ st. SteppedBy h (clashIn table) s t st r) (sym e)
       (stepped-too h (inRow row) (clashIn table) s t (Hand j x) r (hand-asked h (inRow row) (clashIn table) s j x row-asked) S)

@@ -6,7 +6,7 @@ ghost use mathlib.Core.Path.{_≡_};
 ghost use Rattle.header.specs.Header.{itemsOf};
 ghost use Rattle.clash.specs.Clash.{clashIn, RowsOf};
 ghost use Rattle.view.specs.Ready.{Ready};
-ghost use Rattle.steps.specs.Stepped.{Stepped};
+ghost use Rattle.steps.specs.Stepped.{SteppedBy};
 use clash::rows::clash_row;
 use header::Head;
 use rules::Step;
@@ -17,7 +17,7 @@ use steps::outside;
 // The step, whichever of the eighteen it is.
 pub fn advance(table: &[u8], s: &mut [u8], h: Head, rows: &[u64], st: Step) -> u8
     requires { ⌜ Ready h (now s) × (h .items ≡ itemsOf (now table)) × RowsOf (now table) (now rows) ⌝ }
-    ensures { λ r. ⌜ Stepped h (clashIn (now (table .entry))) (now (s .entry)) (now (s .exit)) st r ⌝ }
+    ensures { λ r. ⌜ SteppedBy h (clashIn (now (table .entry))) (now (s .entry)) (now (s .exit)) st r ⌝ }
 {
     match st {
         Step::Post(x) => ballots::step_post(s, h, x),

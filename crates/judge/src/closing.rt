@@ -2,14 +2,14 @@
 ghost use mathlib.Core.Path.{_≡_};
 ghost use Rattle.rules.specs.declared.Step.the-variants.{Close, Fetch, SendHash, Hear, Back, Publish};
 ghost use Rattle.state.specs.Contents.{toBackOn};
-ghost use Rattle.view.specs.View.{noClash, answerOn, boardOn, nextBoardOn};
+ghost use Rattle.view.specs.View.{answerOn, boardOn, nextBoardOn};
 ghost use Rattle.view.specs.Ready.{Ready};
 use header::Head;
 
 // 7, close: peer j closes its open period.
 pub fn judge_close(s: &[u8], h: Head, j: u8) -> u8
     requires { ⌜ Ready h (now s) ⌝ }
-    ensures { λ r. ⌜ r ≡ answerOn h noClash (now (s .entry)) (Close j) ⌝ }
+    ensures { λ r. ⌜ r ≡ answerOn h (now (s .entry)) (Close j) ⌝ }
 {
     if guard::names::no_peer(h, j) {
         return 6;
@@ -29,7 +29,7 @@ pub fn judge_close(s: &[u8], h: Head, j: u8) -> u8
 // 8, fetch: peer j adds peer k's database of period p to its own.
 pub fn judge_fetch(s: &[u8], h: Head, j: u8, k: u8, p: u8) -> u8
     requires { ⌜ Ready h (now s) ⌝ }
-    ensures { λ r. ⌜ r ≡ answerOn h noClash (now (s .entry)) (Fetch j k p) ⌝ }
+    ensures { λ r. ⌜ r ≡ answerOn h (now (s .entry)) (Fetch j k p) ⌝ }
 {
     if guard::names::no_peer(h, j) {
         return 6;
@@ -64,7 +64,7 @@ pub fn judge_fetch(s: &[u8], h: Head, j: u8, k: u8, p: u8) -> u8
 // 9, hash: peer j sends out the hash of its board of period p.
 pub fn judge_send_hash(s: &[u8], h: Head, j: u8, p: u8, board: u64) -> u8
     requires { ⌜ Ready h (now s) × (board ≡ boardOn h (now s) j p) ⌝ }
-    ensures { λ r. ⌜ r ≡ answerOn h noClash (now (s .entry)) (SendHash j p) ⌝ }
+    ensures { λ r. ⌜ r ≡ answerOn h (now (s .entry)) (SendHash j p) ⌝ }
 {
     if guard::names::no_peer(h, j) {
         return 6;
@@ -90,7 +90,7 @@ pub fn judge_send_hash(s: &[u8], h: Head, j: u8, p: u8, board: u64) -> u8
 // 10, hear: peer j hears the hash of entry e.
 pub fn judge_hear(s: &[u8], h: Head, j: u8, e: u8) -> u8
     requires { ⌜ Ready h (now s) ⌝ }
-    ensures { λ r. ⌜ r ≡ answerOn h noClash (now (s .entry)) (Hear j e) ⌝ }
+    ensures { λ r. ⌜ r ≡ answerOn h (now (s .entry)) (Hear j e) ⌝ }
 {
     if guard::names::no_peer(h, j) {
         return 6;
@@ -113,7 +113,7 @@ pub fn judge_hear(s: &[u8], h: Head, j: u8, e: u8) -> u8
 // 11, back: peer j backs its board of the next period that it is to back.
 pub fn judge_back(s: &[u8], h: Head, j: u8, c: u8, board: u64) -> u8
     requires { ⌜ Ready h (now s) × (c ≡ toBackOn (now s) j) × (board ≡ nextBoardOn h (now s) j) ⌝ }
-    ensures { λ r. ⌜ r ≡ answerOn h noClash (now (s .entry)) (Back j) ⌝ }
+    ensures { λ r. ⌜ r ≡ answerOn h (now (s .entry)) (Back j) ⌝ }
 {
     if guard::names::no_peer(h, j) {
         return 6;
@@ -139,7 +139,7 @@ pub fn judge_back(s: &[u8], h: Head, j: u8, c: u8, board: u64) -> u8
 // 12, publish: the board that the backing of entry e names is published.
 pub fn judge_publish(s: &[u8], h: Head, e: u8) -> u8
     requires { ⌜ Ready h (now s) ⌝ }
-    ensures { λ r. ⌜ r ≡ answerOn h noClash (now (s .entry)) (Publish e) ⌝ }
+    ensures { λ r. ⌜ r ≡ answerOn h (now (s .entry)) (Publish e) ⌝ }
 {
     if bag_guard::entry::not_backing(s, e) {
         return 10;

@@ -2,7 +2,7 @@
 // For each its refusals, in the order in which they are judged.
 ghost use mathlib.Core.Path.{_≡_};
 ghost use Rattle.rules.specs.declared.Step.the-variants.{FalseSignature, FalseShare, FalseHash, FalseBacking, Down, Up};
-ghost use Rattle.view.specs.View.{noClash, answerOn};
+ghost use Rattle.view.specs.View.{answerOn};
 ghost use Rattle.view.specs.Ready.{Ready};
 use header::Head;
 use rules::Entry;
@@ -10,7 +10,7 @@ use rules::Entry;
 // 13: the outsider makes dishonest peer j's signature on item x in period p.
 pub fn judge_false_signature(s: &[u8], h: Head, j: u8, p: u8, x: u8) -> u8
     requires { ⌜ Ready h (now s) ⌝ }
-    ensures { λ r. ⌜ r ≡ answerOn h noClash (now (s .entry)) (FalseSignature j p x) ⌝ }
+    ensures { λ r. ⌜ r ≡ answerOn h (now (s .entry)) (FalseSignature j p x) ⌝ }
 {
     if guard::names::no_peer(h, j) {
         return 6;
@@ -33,7 +33,7 @@ pub fn judge_false_signature(s: &[u8], h: Head, j: u8, p: u8, x: u8) -> u8
 // 14: the outsider makes dishonest peer j's receipt share on item x in period p. It is refused as a signature is.
 pub fn judge_false_share(s: &[u8], h: Head, j: u8, p: u8, x: u8) -> u8
     requires { ⌜ Ready h (now s) ⌝ }
-    ensures { λ r. ⌜ r ≡ answerOn h noClash (now (s .entry)) (FalseShare j p x) ⌝ }
+    ensures { λ r. ⌜ r ≡ answerOn h (now (s .entry)) (FalseShare j p x) ⌝ }
 {
     judge_false_signature(s, h, j, p, x)
 }
@@ -41,7 +41,7 @@ pub fn judge_false_share(s: &[u8], h: Head, j: u8, p: u8, x: u8) -> u8
 // 15: the outsider makes dishonest peer j's hash of a board in period p.
 pub fn judge_false_hash(s: &[u8], h: Head, j: u8, p: u8, board: u64) -> u8
     requires { ⌜ Ready h (now s) ⌝ }
-    ensures { λ r. ⌜ r ≡ answerOn h noClash (now (s .entry)) (FalseHash j p board) ⌝ }
+    ensures { λ r. ⌜ r ≡ answerOn h (now (s .entry)) (FalseHash j p board) ⌝ }
 {
     if guard::names::no_peer(h, j) {
         return 6;
@@ -67,7 +67,7 @@ pub fn judge_false_hash(s: &[u8], h: Head, j: u8, p: u8, board: u64) -> u8
 // 16: the outsider makes dishonest peer j's backing of a board in period p.
 pub fn judge_false_backing(s: &[u8], h: Head, j: u8, p: u8, board: u64) -> u8
     requires { ⌜ Ready h (now s) ⌝ }
-    ensures { λ r. ⌜ r ≡ answerOn h noClash (now (s .entry)) (FalseBacking j p board) ⌝ }
+    ensures { λ r. ⌜ r ≡ answerOn h (now (s .entry)) (FalseBacking j p board) ⌝ }
 {
     if guard::names::no_peer(h, j) {
         return 6;
@@ -93,7 +93,7 @@ pub fn judge_false_backing(s: &[u8], h: Head, j: u8, p: u8, board: u64) -> u8
 // 17, down: peer j goes down.
 pub fn judge_down(s: &[u8], h: Head, j: u8) -> u8
     requires { ⌜ Ready h (now s) ⌝ }
-    ensures { λ r. ⌜ r ≡ answerOn h noClash (now (s .entry)) (Down j) ⌝ }
+    ensures { λ r. ⌜ r ≡ answerOn h (now (s .entry)) (Down j) ⌝ }
 {
     if guard::names::no_peer(h, j) {
         return 6;
@@ -107,7 +107,7 @@ pub fn judge_down(s: &[u8], h: Head, j: u8) -> u8
 // 18, up: peer j comes up. It is refused as down is.
 pub fn judge_up(s: &[u8], h: Head, j: u8) -> u8
     requires { ⌜ Ready h (now s) ⌝ }
-    ensures { λ r. ⌜ r ≡ answerOn h noClash (now (s .entry)) (Up j) ⌝ }
+    ensures { λ r. ⌜ r ≡ answerOn h (now (s .entry)) (Up j) ⌝ }
 {
     judge_down(s, h, j)
 }

@@ -21,7 +21,7 @@ use Rattle.state.specs.Facts.{Peer, Row, Within}
 use Rattle.state.specs.Contents.{contents, Holds, withEntry}
 use Rattle.view.specs.Effect.{enterOn}
 use Rattle.header.specs.declared.Head.{Head}
-use Rattle.view.specs.View.{noClash, tableOf, stateOf, answerOn}
+use Rattle.view.specs.View.{noClash, tableOf, stateOf, answerBy}
 use Rattle.view.specs.Ready.{Room, Ready}
 
 -- names of the table are names of the layout
@@ -45,101 +45,101 @@ in-items h x room e = omega (arith, ltb-true x (h .items) (not-false _ e), room 
 ruleset named = (in-peers, in-periods, in-open, in-items)
 
 module _ (h : Head) (clash : ℕ → ℕ → Bool) (s : List ℕ) (R : Ready h s) where
-  clear : (st : Step) {a : ℕ} → a ≡ answerOn h clash s st → a ≡ 0 → Clear (tableOf h clash) (stateOf (contents s)) st
+  clear : (st : Step) {a : ℕ} → a ≡ answerBy h clash s st → a ≡ 0 → Clear (tableOf h clash) (stateOf (contents s)) st
   clear st e z = answered (tableOf h clash) (stateOf (contents s)) st (sym e ∙ z)
 
   room : Room h
   room = R .room
 
   module _ {a : ℕ} where
-    pub may-post : (x : ℕ) → a ≡ answerOn h clash s (Post x) → a ≡ 0 → Within (Posted x)
+    pub may-post : (x : ℕ) → a ≡ answerBy h clash s (Post x) → a ≡ 0 → Within (Posted x)
     unfolding rule
     may-post x e z = let c = clear (Post x) e z in let r = room in search named
 
-    pub may-hand : (j p x : ℕ) → a ≡ answerOn h clash s (Hand j x) → a ≡ 0 → p ≡ contents s .number (CurrentOf j) → Within (Held j p x)
+    pub may-hand : (j p x : ℕ) → a ≡ answerBy h clash s (Hand j x) → a ≡ 0 → p ≡ contents s .number (CurrentOf j) → Within (Held j p x)
     unfolding rule
     may-hand j p x e z i = let c = clear (Hand j x) e z in let r = room in search named
 
-    pub may-sign : (j p x : ℕ) → a ≡ answerOn h clash s (Sign j x) → a ≡ 0 → p ≡ contents s .number (CurrentOf j) → Within (Signed j p x)
+    pub may-sign : (j p x : ℕ) → a ≡ answerBy h clash s (Sign j x) → a ≡ 0 → p ≡ contents s .number (CurrentOf j) → Within (Signed j p x)
     unfolding rule
     may-sign j p x e z i = let c = clear (Sign j x) e z in let r = room in search named
 
-    pub may-know-own : (j p x : ℕ) → a ≡ answerOn h clash s (Sign j x) → a ≡ 0 → p ≡ contents s .number (CurrentOf j)
+    pub may-know-own : (j p x : ℕ) → a ≡ answerBy h clash s (Sign j x) → a ≡ 0 → p ≡ contents s .number (CurrentOf j)
         → Within (Known j p x j)
     unfolding rule
     may-know-own j p x e z i = let c = clear (Sign j x) e z in let r = room in search named
 
-    pub may-take : (j k p x : ℕ) → a ≡ answerOn h clash s (Take j k p x) → a ≡ 0 → Within (Known j p x k)
+    pub may-take : (j k p x : ℕ) → a ≡ answerBy h clash s (Take j k p x) → a ≡ 0 → Within (Known j p x k)
     unfolding rule
     may-take j k p x e z = let c = clear (Take j k p x) e z in let r = room in search named
 
-    pub may-share : (j p x : ℕ) → a ≡ answerOn h clash s (Share j x) → a ≡ 0 → p ≡ contents s .number (CurrentOf j) → Within (Shared j p x)
+    pub may-share : (j p x : ℕ) → a ≡ answerBy h clash s (Share j x) → a ≡ 0 → p ≡ contents s .number (CurrentOf j) → Within (Shared j p x)
     unfolding rule
     may-share j p x e z i = let c = clear (Share j x) e z in let r = room in search named
 
-    pub may-receipt : (p x : ℕ) → a ≡ answerOn h clash s (Receipt p x) → a ≡ 0 → Within (Receipted p x)
+    pub may-receipt : (p x : ℕ) → a ≡ answerBy h clash s (Receipt p x) → a ≡ 0 → Within (Receipted p x)
     unfolding rule
     may-receipt p x e z = let c = clear (Receipt p x) e z in let r = room in search named
 
-    pub may-close : (j : ℕ) → a ≡ answerOn h clash s (Close j) → a ≡ 0 → Peer j
+    pub may-close : (j : ℕ) → a ≡ answerBy h clash s (Close j) → a ≡ 0 → Peer j
     unfolding rule
     may-close j e z = let c = clear (Close j) e z in let r = room in search named
 
-    pub close-fits : (j : ℕ) → a ≡ answerOn h clash s (Close j) → a ≡ 0 → contents s .number (CurrentOf j) < 255
+    pub close-fits : (j : ℕ) → a ≡ answerBy h clash s (Close j) → a ≡ 0 → contents s .number (CurrentOf j) < 255
     close-fits j e z = omega (arith, R .good clash .valid .counters .opens j, R .room .periods)
 
-    pub may-fetch : (j k p : ℕ) → a ≡ answerOn h clash s (Fetch j k p) → a ≡ 0 → Row j p
+    pub may-fetch : (j k p : ℕ) → a ≡ answerBy h clash s (Fetch j k p) → a ≡ 0 → Row j p
     unfolding rule
     may-fetch j k p e z = let c = clear (Fetch j k p) e z in let r = room in search named
 
-    pub may-hear : (j x : ℕ) → a ≡ answerOn h clash s (Hear j x) → a ≡ 0 → x < entries → Within (Heard j x)
+    pub may-hear : (j x : ℕ) → a ≡ answerBy h clash s (Hear j x) → a ≡ 0 → x < entries → Within (Heard j x)
     unfolding rule
     may-hear j x e z l = let c = clear (Hear j x) e z in let r = room in search named
 
-    pub may-false-sign : (j p x : ℕ) → a ≡ answerOn h clash s (FalseSignature j p x) → a ≡ 0 → Within (Signed j p x)
+    pub may-false-sign : (j p x : ℕ) → a ≡ answerBy h clash s (FalseSignature j p x) → a ≡ 0 → Within (Signed j p x)
     unfolding rule
     may-false-sign j p x e z = let c = clear (FalseSignature j p x) e z in let r = room in search named
 
-    pub may-false-share : (j p x : ℕ) → a ≡ answerOn h clash s (FalseShare j p x) → a ≡ 0 → Within (Shared j p x)
+    pub may-false-share : (j p x : ℕ) → a ≡ answerBy h clash s (FalseShare j p x) → a ≡ 0 → Within (Shared j p x)
     unfolding rule
     may-false-share j p x e z = let c = clear (FalseShare j p x) e z in let r = room in search named
 
-    pub may-down : (j : ℕ) → a ≡ answerOn h clash s (Down j) → a ≡ 0 → Peer j
+    pub may-down : (j : ℕ) → a ≡ answerBy h clash s (Down j) → a ≡ 0 → Peer j
     unfolding rule
     may-down j e z = let c = clear (Down j) e z in let r = room in search named
 
-    pub may-up : (j : ℕ) → a ≡ answerOn h clash s (Up j) → a ≡ 0 → Peer j
+    pub may-up : (j : ℕ) → a ≡ answerBy h clash s (Up j) → a ≡ 0 → Peer j
     unfolding rule
     may-up j e z = let c = clear (Up j) e z in let r = room in search named
 
     -- there is room for the entry of the step
 
-    pub room-for-hash : (j p B : ℕ) → a ≡ answerOn h clash s (SendHash j p) → a ≡ 0
+    pub room-for-hash : (j p B : ℕ) → a ≡ answerBy h clash s (SendHash j p) → a ≡ 0
         → B ≡ boardBy (tableOf h clash) (stateOf (contents s)) j p → isFull (Hash j p B) (contents s .bag) ≡ false
     unfolding rule
     room-for-hash j p B e z i = let c = clear (SendHash j p) e z in rw i (search)
 
-    pub room-for-backing : (j q B : ℕ) → a ≡ answerOn h clash s (Back j) → a ≡ 0 → q ≡ contents s .number (ToBackOf j)
+    pub room-for-backing : (j q B : ℕ) → a ≡ answerBy h clash s (Back j) → a ≡ 0 → q ≡ contents s .number (ToBackOf j)
         → B ≡ boardBy (tableOf h clash) (stateOf (contents s)) j (contents s .number (ToBackOf j))
         → isFull (Backing j q B) (contents s .bag) ≡ false
     unfolding rule
     room-for-backing j q B e z k i = let c = clear (Back j) e z in rw (k, i) (search)
 
-    pub room-for-board : (n : ℕ) (x : Entry) → a ≡ answerOn h clash s (Publish n) → a ≡ 0
+    pub room-for-board : (n : ℕ) (x : Entry) → a ≡ answerBy h clash s (Publish n) → a ≡ 0
         → x ≡ boardNamed (contents s .bag) n → isFull x (contents s .bag) ≡ false
     unfolding rule
     room-for-board n x e z i = let c = clear (Publish n) e z in rw i (search)
 
-    pub room-for-false-hash : (j p B : ℕ) → a ≡ answerOn h clash s (FalseHash j p B) → a ≡ 0 → isFull (Hash j p B) (contents s .bag) ≡ false
+    pub room-for-false-hash : (j p B : ℕ) → a ≡ answerBy h clash s (FalseHash j p B) → a ≡ 0 → isFull (Hash j p B) (contents s .bag) ≡ false
     unfolding rule
     room-for-false-hash j p B e z = let c = clear (FalseHash j p B) e z in search
 
-    pub room-for-false-backing : (j p B : ℕ) → a ≡ answerOn h clash s (FalseBacking j p B) → a ≡ 0
+    pub room-for-false-backing : (j p B : ℕ) → a ≡ answerBy h clash s (FalseBacking j p B) → a ≡ 0
         → isFull (Backing j p B) (contents s .bag) ≡ false
     unfolding rule
     room-for-false-backing j p B e z = let c = clear (FalseBacking j p B) e z in search
 
-    pub may-back : (j : ℕ) → a ≡ answerOn h clash s (Back j) → a ≡ 0 → Peer j
+    pub may-back : (j : ℕ) → a ≡ answerBy h clash s (Back j) → a ≡ 0 → Peer j
     unfolding rule
     may-back j e z = let c = clear (Back j) e z in let r = room in search named
 

@@ -8,14 +8,14 @@ use Rattle.rules.specs.declared.Step.{Step}
 use Rattle.state.specs.Contents.{contents, Holds}
 use Rattle.state.proofs.Encode.{holds-bytes}
 use Rattle.header.specs.declared.Head.{Head}
-use Rattle.view.specs.View.{tableOf, answerOn}
+use Rattle.view.specs.View.{tableOf, answerBy}
 use Rattle.view.specs.Effect.{effectOn}
-use Rattle.steps.specs.Stepped.{Stepped}
+use Rattle.steps.specs.Stepped.{SteppedBy}
 
 module _ (h : Head) (clash : ℕ → ℕ → Bool) (s : List ℕ) (st : Step) where
-  pub refused : (r : ℕ) → r ≡ answerOn h clash s st → (r ≡ 0 → ⊥) → Stepped h clash s s st r
+  pub refused : (r : ℕ) → r ≡ answerBy h clash s st → (r ≡ 0 → ⊥) → SteppedBy h clash s s st r
   refused r e n = record { answers = e; leaves = rw (ne-eqb r 0 n) }
 
-  pub taken : (t : List ℕ) {a : ℕ} → a ≡ answerOn h clash s st → a ≡ 0
-      → Holds t (effectOn (tableOf h clash) (contents s) st) → Stepped h clash s t st 0
+  pub taken : (t : List ℕ) {a : ℕ} → a ≡ answerBy h clash s st → a ≡ 0
+      → Holds t (effectOn (tableOf h clash) (contents s) st) → SteppedBy h clash s t st 0
   taken t e z held = record { answers = sym z ∙ e; leaves = holds-bytes t _ held }

@@ -10,13 +10,17 @@ use Rattle.state.specs.declared.Number.the-variants.{CurrentOf, ToBackOf}
 use Rattle.state.specs.Contents.{Contents, contents}
 use Rattle.state.specs.Encode.{encode}
 use Rattle.header.specs.declared.Head.{Head}
-use Rattle.view.specs.View.{tableOf, answerOn}
+use Rattle.view.specs.View.{noClash, tableOf, answerBy}
 use Rattle.view.specs.Effect.{effectOn}
 
--- s are the bytes before the step, t those after it, and r is its answer: a refused step alters nothing
-pub record Stepped (h : Head) (clash : ℕ → ℕ → Bool) (s t : List ℕ) (st : Step) (r : ℕ) : Type 0 where
-  pub answers : r ≡ answerOn h clash s st
+-- by what clashes; s are the bytes before the step, t those after it, and r is its answer: a refused step alters nothing
+pub record SteppedBy (h : Head) (clash : ℕ → ℕ → Bool) (s t : List ℕ) (st : Step) (r : ℕ) : Type 0 where
+  pub answers : r ≡ answerBy h clash s st
   pub leaves : t ≡ cond (eqb r 0) (encode (effectOn (tableOf h clash) (contents s) st)) s
+
+-- the same of any step but a hand
+abbrev pub Stepped : Head → List ℕ → List ℕ → Step → ℕ → Type 0
+Stepped h s t st r = SteppedBy h noClash s t st r
 
 -- peer j's two counters
 abbrev pub countersOf : Contents → ℕ → Counters

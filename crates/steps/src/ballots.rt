@@ -1,8 +1,8 @@
 // Steps 1 to 6: from a posted item to its receipt.
 ghost use Rattle.rules.specs.declared.Step.the-variants.{Post, Hand, Sign, Take, Share, Receipt};
-ghost use Rattle.view.specs.View.{noClash, inRow};
+ghost use Rattle.view.specs.View.{inRow};
 ghost use Rattle.view.specs.Ready.{Ready};
-ghost use Rattle.steps.specs.Stepped.{Stepped};
+ghost use Rattle.steps.specs.Stepped.{Stepped, SteppedBy};
 use header::Head;
 use state::Fact;
 use state::facts::add_fact;
@@ -11,7 +11,7 @@ use state::numbers::current_of;
 // 1, post: item x is posted.
 pub fn step_post(s: &mut [u8], h: Head, x: u8) -> u8
     requires { ⌜ Ready h (now s) ⌝ }
-    ensures { λ r. ⌜ Stepped h noClash (now (s .entry)) (now (s .exit)) (Post x) r ⌝ }
+    ensures { λ r. ⌜ Stepped h (now (s .entry)) (now (s .exit)) (Post x) r ⌝ }
 {
     let a = judge::ballots::judge_post(s, h, x);
     if a != 0 {
@@ -24,7 +24,7 @@ pub fn step_post(s: &mut [u8], h: Head, x: u8) -> u8
 // 2, hand: peer j is handed item x, and holds it in its open period.
 pub fn step_hand(s: &mut [u8], h: Head, row: u64, j: u8, x: u8) -> u8
     requires { ⌜ Ready h (now s) ⌝ }
-    ensures { λ r. ⌜ Stepped h (inRow row) (now (s .entry)) (now (s .exit)) (Hand j x) r ⌝ }
+    ensures { λ r. ⌜ SteppedBy h (inRow row) (now (s .entry)) (now (s .exit)) (Hand j x) r ⌝ }
 {
     let a = judge::ballots::judge_hand(s, h, row, j, x);
     if a != 0 {
@@ -38,7 +38,7 @@ pub fn step_hand(s: &mut [u8], h: Head, row: u64, j: u8, x: u8) -> u8
 // 3, sign: peer j signs item x, and knows its own signature.
 pub fn step_sign(s: &mut [u8], h: Head, j: u8, x: u8) -> u8
     requires { ⌜ Ready h (now s) ⌝ }
-    ensures { λ r. ⌜ Stepped h noClash (now (s .entry)) (now (s .exit)) (Sign j x) r ⌝ }
+    ensures { λ r. ⌜ Stepped h (now (s .entry)) (now (s .exit)) (Sign j x) r ⌝ }
 {
     let a = judge::ballots::judge_sign(s, h, j, x);
     if a != 0 {
@@ -53,7 +53,7 @@ pub fn step_sign(s: &mut [u8], h: Head, j: u8, x: u8) -> u8
 // 4, take: peer j takes peer k's signature on item x in period p.
 pub fn step_take(s: &mut [u8], h: Head, j: u8, k: u8, p: u8, x: u8) -> u8
     requires { ⌜ Ready h (now s) ⌝ }
-    ensures { λ r. ⌜ Stepped h noClash (now (s .entry)) (now (s .exit)) (Take j k p x) r ⌝ }
+    ensures { λ r. ⌜ Stepped h (now (s .entry)) (now (s .exit)) (Take j k p x) r ⌝ }
 {
     let a = judge::ballots::judge_take(s, h, j, k, p, x);
     if a != 0 {
@@ -66,7 +66,7 @@ pub fn step_take(s: &mut [u8], h: Head, j: u8, k: u8, p: u8, x: u8) -> u8
 // 5, share: peer j gives its receipt share on item x.
 pub fn step_share(s: &mut [u8], h: Head, j: u8, x: u8) -> u8
     requires { ⌜ Ready h (now s) ⌝ }
-    ensures { λ r. ⌜ Stepped h noClash (now (s .entry)) (now (s .exit)) (Share j x) r ⌝ }
+    ensures { λ r. ⌜ Stepped h (now (s .entry)) (now (s .exit)) (Share j x) r ⌝ }
 {
     let a = judge::ballots::judge_share(s, h, j, x);
     if a != 0 {
@@ -80,7 +80,7 @@ pub fn step_share(s: &mut [u8], h: Head, j: u8, x: u8) -> u8
 // 6, receipt: t receipt shares on item x in period p make a receipt.
 pub fn step_receipt(s: &mut [u8], h: Head, p: u8, x: u8) -> u8
     requires { ⌜ Ready h (now s) ⌝ }
-    ensures { λ r. ⌜ Stepped h noClash (now (s .entry)) (now (s .exit)) (Receipt p x) r ⌝ }
+    ensures { λ r. ⌜ Stepped h (now (s .entry)) (now (s .exit)) (Receipt p x) r ⌝ }
 {
     let a = judge::ballots::judge_receipt(s, h, p, x);
     if a != 0 {

@@ -1,6 +1,5 @@
 // Steps 7 to 12: from the close of a period to its board.
 ghost use Rattle.rules.specs.declared.Step.the-variants.{Close, Fetch, SendHash, Hear, Back, Publish};
-ghost use Rattle.view.specs.View.{noClash};
 ghost use Rattle.view.specs.Ready.{Ready};
 ghost use Rattle.steps.specs.Stepped.{Stepped};
 use crate::change::enter;
@@ -16,7 +15,7 @@ use state::numbers::to_back_of;
 // 7, close: peer j closes its open period.
 pub fn step_close(s: &mut [u8], h: Head, j: u8) -> u8
     requires { ⌜ Ready h (now s) ⌝ }
-    ensures { λ r. ⌜ Stepped h noClash (now (s .entry)) (now (s .exit)) (Close j) r ⌝ }
+    ensures { λ r. ⌜ Stepped h (now (s .entry)) (now (s .exit)) (Close j) r ⌝ }
 {
     let a = judge::closing::judge_close(s, h, j);
     if a != 0 {
@@ -29,7 +28,7 @@ pub fn step_close(s: &mut [u8], h: Head, j: u8) -> u8
 // 8, fetch: peer j adds peer k's database of period p to its own.
 pub fn step_fetch(s: &mut [u8], h: Head, j: u8, k: u8, p: u8) -> u8
     requires { ⌜ Ready h (now s) ⌝ }
-    ensures { λ r. ⌜ Stepped h noClash (now (s .entry)) (now (s .exit)) (Fetch j k p) r ⌝ }
+    ensures { λ r. ⌜ Stepped h (now (s .entry)) (now (s .exit)) (Fetch j k p) r ⌝ }
 {
     let a = judge::closing::judge_fetch(s, h, j, k, p);
     if a != 0 {
@@ -42,7 +41,7 @@ pub fn step_fetch(s: &mut [u8], h: Head, j: u8, k: u8, p: u8) -> u8
 // 9, hash: peer j sends out the hash of its board of period p.
 pub fn step_send_hash(s: &mut [u8], h: Head, j: u8, p: u8) -> u8
     requires { ⌜ Ready h (now s) ⌝ }
-    ensures { λ r. ⌜ Stepped h noClash (now (s .entry)) (now (s .exit)) (SendHash j p) r ⌝ }
+    ensures { λ r. ⌜ Stepped h (now (s .entry)) (now (s .exit)) (SendHash j p) r ⌝ }
 {
     let board = bag_guard::boards::board_by(s, h, j, p);
     let a = judge::closing::judge_send_hash(s, h, j, p, board);
@@ -56,7 +55,7 @@ pub fn step_send_hash(s: &mut [u8], h: Head, j: u8, p: u8) -> u8
 // 10, hear: peer j hears the hash of entry e.
 pub fn step_hear(s: &mut [u8], h: Head, j: u8, e: u8) -> u8
     requires { ⌜ Ready h (now s) ⌝ }
-    ensures { λ r. ⌜ Stepped h noClash (now (s .entry)) (now (s .exit)) (Hear j e) r ⌝ }
+    ensures { λ r. ⌜ Stepped h (now (s .entry)) (now (s .exit)) (Hear j e) r ⌝ }
 {
     let a = judge::closing::judge_hear(s, h, j, e);
     if a != 0 {
@@ -69,7 +68,7 @@ pub fn step_hear(s: &mut [u8], h: Head, j: u8, e: u8) -> u8
 // 11, back: peer j backs its board of the next period that it is to back.
 pub fn step_back(s: &mut [u8], h: Head, j: u8) -> u8
     requires { ⌜ Ready h (now s) ⌝ }
-    ensures { λ r. ⌜ Stepped h noClash (now (s .entry)) (now (s .exit)) (Back j) r ⌝ }
+    ensures { λ r. ⌜ Stepped h (now (s .entry)) (now (s .exit)) (Back j) r ⌝ }
 {
     let c = to_back_of(s, j);
     let board = bag_guard::boards::board_by(s, h, j, c);
@@ -85,7 +84,7 @@ pub fn step_back(s: &mut [u8], h: Head, j: u8) -> u8
 // 12, publish: the board that the backing of entry e names is published.
 pub fn step_publish(s: &mut [u8], h: Head, e: u8) -> u8
     requires { ⌜ Ready h (now s) ⌝ }
-    ensures { λ r. ⌜ Stepped h noClash (now (s .entry)) (now (s .exit)) (Publish e) r ⌝ }
+    ensures { λ r. ⌜ Stepped h (now (s .entry)) (now (s .exit)) (Publish e) r ⌝ }
 {
     let a = judge::closing::judge_publish(s, h, e);
     if a != 0 {

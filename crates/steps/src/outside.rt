@@ -1,6 +1,5 @@
 // Steps 13 to 18: what the outsider does, and peers that go down and come up.
 ghost use Rattle.rules.specs.declared.Step.the-variants.{FalseSignature, FalseShare, FalseHash, FalseBacking, Down, Up};
-ghost use Rattle.view.specs.View.{noClash};
 ghost use Rattle.view.specs.Ready.{Ready};
 ghost use Rattle.steps.specs.Stepped.{Stepped};
 use crate::change::enter;
@@ -14,7 +13,7 @@ use state::numbers::set_value;
 // 13: the outsider makes dishonest peer j's signature on item x in period p.
 pub fn step_false_signature(s: &mut [u8], h: Head, j: u8, p: u8, x: u8) -> u8
     requires { ⌜ Ready h (now s) ⌝ }
-    ensures { λ r. ⌜ Stepped h noClash (now (s .entry)) (now (s .exit)) (FalseSignature j p x) r ⌝ }
+    ensures { λ r. ⌜ Stepped h (now (s .entry)) (now (s .exit)) (FalseSignature j p x) r ⌝ }
 {
     let a = judge::outside::judge_false_signature(s, h, j, p, x);
     if a != 0 {
@@ -27,7 +26,7 @@ pub fn step_false_signature(s: &mut [u8], h: Head, j: u8, p: u8, x: u8) -> u8
 // 14: the outsider makes dishonest peer j's receipt share on item x in period p.
 pub fn step_false_share(s: &mut [u8], h: Head, j: u8, p: u8, x: u8) -> u8
     requires { ⌜ Ready h (now s) ⌝ }
-    ensures { λ r. ⌜ Stepped h noClash (now (s .entry)) (now (s .exit)) (FalseShare j p x) r ⌝ }
+    ensures { λ r. ⌜ Stepped h (now (s .entry)) (now (s .exit)) (FalseShare j p x) r ⌝ }
 {
     let a = judge::outside::judge_false_share(s, h, j, p, x);
     if a != 0 {
@@ -40,7 +39,7 @@ pub fn step_false_share(s: &mut [u8], h: Head, j: u8, p: u8, x: u8) -> u8
 // 15: the outsider makes dishonest peer j's hash of a board in period p.
 pub fn step_false_hash(s: &mut [u8], h: Head, j: u8, p: u8, board: u64) -> u8
     requires { ⌜ Ready h (now s) ⌝ }
-    ensures { λ r. ⌜ Stepped h noClash (now (s .entry)) (now (s .exit)) (FalseHash j p board) r ⌝ }
+    ensures { λ r. ⌜ Stepped h (now (s .entry)) (now (s .exit)) (FalseHash j p board) r ⌝ }
 {
     let a = judge::outside::judge_false_hash(s, h, j, p, board);
     if a != 0 {
@@ -53,7 +52,7 @@ pub fn step_false_hash(s: &mut [u8], h: Head, j: u8, p: u8, board: u64) -> u8
 // 16: the outsider makes dishonest peer j's backing of a board in period p.
 pub fn step_false_backing(s: &mut [u8], h: Head, j: u8, p: u8, board: u64) -> u8
     requires { ⌜ Ready h (now s) ⌝ }
-    ensures { λ r. ⌜ Stepped h noClash (now (s .entry)) (now (s .exit)) (FalseBacking j p board) r ⌝ }
+    ensures { λ r. ⌜ Stepped h (now (s .entry)) (now (s .exit)) (FalseBacking j p board) r ⌝ }
 {
     let a = judge::outside::judge_false_backing(s, h, j, p, board);
     if a != 0 {
@@ -66,7 +65,7 @@ pub fn step_false_backing(s: &mut [u8], h: Head, j: u8, p: u8, board: u64) -> u8
 // 17, down: peer j goes down.
 pub fn step_down(s: &mut [u8], h: Head, j: u8) -> u8
     requires { ⌜ Ready h (now s) ⌝ }
-    ensures { λ r. ⌜ Stepped h noClash (now (s .entry)) (now (s .exit)) (Down j) r ⌝ }
+    ensures { λ r. ⌜ Stepped h (now (s .entry)) (now (s .exit)) (Down j) r ⌝ }
 {
     let a = judge::outside::judge_down(s, h, j);
     if a != 0 {
@@ -79,7 +78,7 @@ pub fn step_down(s: &mut [u8], h: Head, j: u8) -> u8
 // 18, up: peer j comes up.
 pub fn step_up(s: &mut [u8], h: Head, j: u8) -> u8
     requires { ⌜ Ready h (now s) ⌝ }
-    ensures { λ r. ⌜ Stepped h noClash (now (s .entry)) (now (s .exit)) (Up j) r ⌝ }
+    ensures { λ r. ⌜ Stepped h (now (s .entry)) (now (s .exit)) (Up j) r ⌝ }
 {
     let a = judge::outside::judge_up(s, h, j);
     if a != 0 {

@@ -67,9 +67,13 @@ stateOn s = stateOf (contents s)
 abbrev pub quorumOf : Head → (ℕ → Bool) → Bool
 quorumOf h S = quorum (tableOf h noClash) S
 
--- the answer of the rules to a step on what the bytes say
-abbrev pub answerOn : Head → (ℕ → ℕ → Bool) → List ℕ → Step → ℕ
-answerOn h clash s st = answer (tableOf h clash) (stateOf (contents s)) st
+-- the answer of the rules to a step on what the bytes say, by what clashes
+abbrev pub answerBy : Head → (ℕ → ℕ → Bool) → List ℕ → Step → ℕ
+answerBy h clash s st = answer (tableOf h clash) (stateOf (contents s)) st
+
+-- the same of any step but a hand
+abbrev pub answerOn : Head → List ℕ → Step → ℕ
+answerOn h s st = answerBy h noClash s st
 
 -- peer j's board of period p, by what the bytes say
 abbrev pub boardOn : Head → List ℕ → ℕ → ℕ → ℕ
