@@ -36,14 +36,16 @@ module _ {M : Type 1} (𝓤 : URA M) (H : Heap 𝓤) (A : Atoms 𝓤) (W : Given
 
   module _ (k : Counters) (b o : ℕ) where
     -- a local's cell and what the struct owns are the struct in memory, and back
-    pub lies-in : ent 𝓤 (sep 𝓤 (sem 𝓤 H A (fat fullShare T′.mir b o (mach k))) (sem 𝓤 H A (T.the-row .own k (vals k)))) (sem 𝓤 H A (partAt T.the-row fullShare k b o))
+    pub lies-in : ent 𝓤 (sep 𝓤 (sem 𝓤 H A (fat fullShare T′.mir b o (mach k))) (sem 𝓤 H A (T.the-row .own k (vals k))))
+        (sem 𝓤 H A (partAt T.the-row fullShare k b o))
     unfolding partOf
     lies-in =
         qed W (‵ (fat fullShare T′.mir b o (mach k)) ∷ ‵ (T.the-row .own k (vals k)) ∷ []) ∵
         use1 W (‵ (cellAt fullShare (T.the-row .mir) (vals k) b o)) (W .laws .at-raw fullShare T′.mir b o (mach k)) $ fjoin ! $
         fpack ! (List Val) (λ us. fsep (cellAt fullShare (T.the-row .mir) us b o) (T.the-row .own k us)) (vals k) $ done !
 
-    pub lies-out : ent 𝓤 (sem 𝓤 H A (partAt T.the-row fullShare k b o)) (sep 𝓤 (sem 𝓤 H A (fat fullShare T′.mir b o (mach k))) (sem 𝓤 H A (T.the-row .own k (vals k))))
+    pub lies-out : ent 𝓤 (sem 𝓤 H A (partAt T.the-row fullShare k b o))
+        (sep 𝓤 (sem 𝓤 H A (fat fullShare T′.mir b o (mach k))) (sem 𝓤 H A (T.the-row .own k (vals k))))
     unfolding partOf
     lies-out =
         qed W (‵ (partAt T.the-row fullShare k b o) ∷ []) ∵ fpick ! (λ vs. fsplit ! $

@@ -1,1 +1,5 @@
+pub mod Called
 pub mod Cells
+pub mod Lent
+pub mod Moved
+pub mod Moves
