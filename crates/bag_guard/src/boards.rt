@@ -3,9 +3,8 @@ ghost use mathlib.Core.Path.{_≡_};
 ghost use mathlib.Core.Bool.{not};
 ghost use Prim.Native.Nat.{_^_, _<_, _≤_};
 ghost use Rattle.rules.specs.Bag.{isFull, periodOf, boardOf, boardNamed};
-ghost use Rattle.rules.specs.Rules.{unposted};
 ghost use Rattle.state.specs.Contents.{Canon, bagOn};
-ghost use Rattle.view.specs.View.{noClash, tableOf, boardOn, stateOn, quorumOf, entryOn, backersOn};
+ghost use Rattle.view.specs.View.{boardOn, unpostedOn, quorumOf, entryOn, backersOn};
 ghost use Rattle.view.specs.Ready.{Ready};
 use crate::entry::board_named;
 use crate::entry::board_of_entry;
@@ -28,7 +27,7 @@ pub fn board_by(s: &[u8], h: Head, j: u8, p: u8) -> u64
 // An item of the board is not posted.
 pub fn unposted(s: &[u8], h: Head, board: u64) -> bool
     requires { ⌜ Canon (now s) × (h .items ≤ 64) × (board < 2 ^ h .items) ⌝ }
-    ensures { λ r. ⌜ r ≡ unposted (tableOf h noClash) (stateOn (now (s .entry))) board ⌝ }
+    ensures { λ r. ⌜ r ≡ unpostedOn h (now (s .entry)) board ⌝ }
 {
     let all = posted(s);
     board | all != all

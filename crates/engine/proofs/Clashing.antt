@@ -76,6 +76,7 @@ module _ (h : Head) (table s : List ℕ) (R : Ready h s) (same : h .items ≡ it
       ap (λ (b : Bool). stateOf (contents s) .held j p y && b)
       (ap (λ (m : ℕ). bit m y) read ∙ bit-pack (maskWidth table) (clashIn table x) y (omega (arith, R .room .items)))))
 
-  pub of-hand : (t : List ℕ) (r : ℕ) (b : Step) → b ≡ Hand j x → SteppedBy h (inRow row) s t (Hand j x) r → SteppedBy h (clashIn table) s t b r
+  pub of-hand : (t : List ℕ) (r : ℕ) (b : Step) → b ≡ Hand j x
+      → SteppedBy h (inRow row) s t (Hand j x) r → SteppedBy h (clashIn table) s t b r
   of-hand t r b e S = subst (λ st. SteppedBy h (clashIn table) s t st r) (sym e)
       (stepped-too h (inRow row) (clashIn table) s t (Hand j x) r (hand-asked h (inRow row) (clashIn table) s j x row-asked) S)

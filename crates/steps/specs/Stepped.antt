@@ -13,7 +13,7 @@ use Rattle.header.specs.declared.Head.{Head}
 use Rattle.view.specs.View.{noClash, tableOf, answerBy}
 use Rattle.view.specs.Effect.{effectOn}
 
--- by what clashes; s are the bytes before the step, t those after it, and r is its answer: a refused step alters nothing
+-- by what clashes: s are the bytes before the step, t those after it, r its answer; a refused step alters nothing
 pub record SteppedBy (h : Head) (clash : ℕ → ℕ → Bool) (s t : List ℕ) (st : Step) (r : ℕ) : Type 0 where
   pub answers : r ≡ answerBy h clash s st
   pub leaves : t ≡ cond (eqb r 0) (encode (effectOn (tableOf h clash) (contents s) st)) s

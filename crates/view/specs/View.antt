@@ -10,7 +10,7 @@ use Rattle.rules.specs.declared.Step.{Step}
 use Rattle.rules.specs.Table.{Table, quorum}
 use Rattle.rules.specs.Bag.{sameEntry, entryAt}
 use Rattle.rules.specs.State.{State}
-use Rattle.rules.specs.Rules.{answer, boardBy, backers}
+use Rattle.rules.specs.Rules.{answer, boardBy, unposted, backers}
 use Rattle.state.specs.declared.Fact.the-variants.{Posted, Signed, Shared, Receipted, Held, Known, Heard}
 use Rattle.state.specs.declared.Number.the-variants.{CurrentOf, ToBackOf, DownOf}
 use Rattle.state.specs.Contents.{Contents, contents, toBackOn, bagOn}
@@ -82,6 +82,10 @@ boardOn h s j p = boardBy (tableOf h noClash) (stateOf (contents s)) j p
 -- its board of the next period that it backs
 abbrev pub nextBoardOn : Head → List ℕ → ℕ → ℕ
 nextBoardOn h s j = boardOn h s j (toBackOn s j)
+
+-- an item of the board is not posted
+abbrev pub unpostedOn : Head → List ℕ → ℕ → Bool
+unpostedOn h s B = unposted (tableOf h noClash) (stateOf (contents s)) B
 
 -- entry e of the bag
 abbrev pub entryOn : List ℕ → ℕ → Entry
