@@ -1,2 +1,3 @@
 pub mod Added
 pub mod Search
+pub mod Entered

@@ -1,12 +1,13 @@
 // The bag: its entries read, looked for and added to.
 // It uses state for where they stand and what the bytes say, bits to read and to write, and the entries of rules.
 ghost use mathlib.Core.Path.{_≡_};
+ghost use mathlib.Core.Bool.{false};
 ghost use Prim.Native.Nat.{_+_, _<_, _≤_};
 ghost use lib.ListN.{length};
 ghost use Rattle.state.specs.Layout.{entries, entrySize};
-ghost use Rattle.rules.specs.Bag.{entryAt as nth, sameEntry, isIn};
+ghost use Rattle.rules.specs.Bag.{entryAt as nth, sameEntry, isIn, isFull};
 ghost use Rattle.state.specs.Entries.{entryOf, FieldsFit, EntryFits};
-ghost use Rattle.state.specs.Contents.{contents, Canon, Holds, withEntry};
+ghost use Rattle.state.specs.Contents.{contents, Canon, Holds, withEntry, enterOn, bagOn};
 ghost use Rattle.bag.specs.Bag.{signerWith, writtenSigner, isWritten, written, entered};
 use rules::Entry;
 use state::layout;
@@ -135,7 +136,7 @@ fn write(s: &mut [u8], o: usize, kind: u8, signer: u8, period: u8, board: u64)
 }
 
 // Writes the entry x from o on.
-fn enter(s: &mut [u8], o: usize, x: Entry)
+fn write_entry(s: &mut [u8], o: usize, x: Entry)
     requires { ⌜ o + entrySize ≤ length (now s) ⌝ }
     ensures { λ _. ⌜ (now (s .exit) ≡ entered (now (s .entry)) o x) × EntryFits x ⌝ }
 {
@@ -147,11 +148,22 @@ fn enter(s: &mut [u8], o: usize, x: Entry)
 }
 
 // Adds x at the bag's end.
-pub fn append(s: &mut [u8], x: Entry)
+fn append(s: &mut [u8], x: Entry)
     requires { ⌜ Canon (now s) × (length (contents (now s) .bag) < entries) ⌝ }
     ensures { λ _. ⌜ Holds (now (s .exit)) (withEntry x (contents (now (s .entry)))) ⌝ }
 {
     let n = bag_len(s);
-    enter(s, layout::BAG + layout::ENTRY_SIZE * n, x);
+    write_entry(s, layout::BAG + layout::ENTRY_SIZE * n, x);
     bits::store(s, layout::COUNT, layout::COUNT_BYTES, (n + 1) as u64);
+}
+
+// Enters x, unless it is there; there is room for it.
+pub fn enter(s: &mut [u8], x: Entry)
+    requires { ⌜ Canon (now s) × (isFull x (bagOn (now s)) ≡ false) ⌝ }
+    ensures { λ _. ⌜ Holds (now (s .exit)) (enterOn x (contents (now (s .entry)))) ⌝ }
+{
+    if is_in(s, x) {
+        return;
+    }
+    append(s, x);
 }

@@ -3,12 +3,12 @@ use Prim.Native.Nat.{ℕ, _+_, _<_, _≤_}
 use native.Mathlib.Decide.{decLt}
 use native.Mathlib.Omega.{arith}
 use mathlib.Core.List.{List}
-use mathlib.Core.Path.{_≡_, sym, ap, _∙_}
+use mathlib.Core.Path.{_≡_, ap, _∙_}
 use lib.ListN.{length, getD, set, replicate, length-replicate}
 use lib.Seq.{getD-set-other}
 use borrow.Author.Tests.{le-ltb}
 use Rattle.base.specs.Bytes.{numberAt}
-use Rattle.base.specs.Tab.{tab, FilledTo}
+use Rattle.base.specs.Tab.{FilledTo}
 use Rattle.base.proofs.Bytes.{zeros-at}
 use Rattle.base.proofs.Tab.{length-tab, getD-tab, filled-none, filled-more, filled-all}
 use Rattle.header.specs.Header.{itemsOf}

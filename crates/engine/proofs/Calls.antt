@@ -21,7 +21,7 @@ use Rattle.header.specs.declared.Head.{Head}
 use Rattle.valid.specs.StateOk.{stateOk}
 use Rattle.view.specs.Ready.{Room, Ready}
 use Rattle.valid.proofs.Ready.{ready-of-ok, ok-of-ready}
-use Rattle.steps.specs.Stepped.{SteppedBy}
+use Rattle.view.specs.Stepped.{SteppedBy}
 use Rattle.engine.specs.Engine.{Prepared, leaveOn, stepAnswer, stepBytes, freshAnswer, freshBytes, freshState}
 
 module _ (table : List ℕ) {r : ℕ} (checked : r ≡ refusal table) where

@@ -1,7 +1,7 @@
 -- What clashes is asked of a hand alone, and there its item's row is enough: so steps that see no table do what the rules say of it.
 use Prim.Native.Nat.{ℕ}
 use native.Mathlib.Omega.{arith}
-use mathlib.Core.Bool.{Bool, true, false, _&&_}
+use mathlib.Core.Bool.{Bool, false, _&&_}
 use mathlib.Core.List.{List, [], _∷_}
 use mathlib.Core.Path.{_≡_, refl, sym, ap, subst, _∙_}
 use Rattle.base.specs.Bits.{bit}
@@ -24,7 +24,7 @@ use Rattle.header.specs.declared.Head.{Head}
 use Rattle.view.specs.View.{noClash, inRow, tableOf, stateOf, answerBy}
 use Rattle.view.specs.Effect.{effectOn}
 use Rattle.view.specs.Ready.{Ready}
-use Rattle.steps.specs.Stepped.{Stepped, SteppedBy}
+use Rattle.view.specs.Stepped.{Stepped, SteppedBy}
 
 -- the step is a hand, by its op
 abbrev pub isHand : Step → Bool

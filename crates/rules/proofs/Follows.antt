@@ -14,7 +14,7 @@ use Rattle.rules.specs.State.{State, fresh}
 use Rattle.rules.specs.Form.{read}
 use Rattle.rules.specs.Rules.{answer, next, leave}
 use Rattle.rules.specs.Ideal.{Fed}
-use Rattle.rules.specs.Run.{World, Engine, seenWith, runFrom, after, answersFrom, byRules, run}
+use Rattle.rules.specs.Run.{Engine, seenWith, runFrom, after, answersFrom, byRules, run}
 use Rattle.rules.specs.Follows.{Follows}
 use Rattle.rules.specs.Valid.{Valid}
 use Rattle.rules.proofs.Answered.{answered}

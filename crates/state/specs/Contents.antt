@@ -16,7 +16,7 @@ use Rattle.state.specs.Layout.{entries, countAt, entryStart, size, signe
 use Rattle.state.specs.Facts.{sameFact, inRange, isPeer}
 use Rattle.state.specs.Places.{place}
 use Rattle.state.specs.Numbers.{sameNumber, peerOf, slot}
-use Rattle.rules.specs.Bag.{kindOf, signerOf, entryAt as nth}
+use Rattle.rules.specs.Bag.{kindOf, signerOf, isIn, entryAt as nth}
 use Rattle.state.specs.Entries.{entryOf, EntryFits}
 
 -- what a state holds: facts, the peers' numbers, and the bag in its order
@@ -103,3 +103,7 @@ store n v c = record { has = c .has; number = λ m. cond (sameNumber m n) v (c .
 -- c, with the entry x at the bag's end
 unfoldable pub withEntry : Entry → Contents → Contents
 withEntry x c = record { has = c .has; number = c .number; bag = c .bag ++ (x ∷ []) }
+
+-- the same, unless it is there
+unfoldable pub enterOn : Entry → Contents → Contents
+enterOn x c = cond (isIn x (c .bag)) c (withEntry x c)

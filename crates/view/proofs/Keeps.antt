@@ -20,11 +20,11 @@ use Rattle.rules.proofs.Valid.{keeps-valid}
 use Rattle.rules.proofs.Each.{each}
 use Rattle.state.specs.declared.Fact.the-variants.{Heard}
 use Rattle.state.specs.declared.Number.the-variants.{DownOf}
-use Rattle.state.specs.Contents.{Contents, adding, insert, store, withEntry}
+use Rattle.state.specs.Contents.{Contents, adding, insert, store, withEntry, enterOn}
 use Rattle.state.specs.Sets.{knownTo}
 use Rattle.state.specs.Sets.{fetched}
 use Rattle.view.specs.View.{stateOf}
-use Rattle.view.specs.Effect.{enterOn, effectOn}
+use Rattle.view.specs.Effect.{effectOn}
 use Rattle.view.specs.Good.{Sound, Good}
 use Rattle.view.proofs.Meets.{meets}
 

@@ -4,3 +4,6 @@ pub mod Keeps
 pub mod Whatever
 pub mod Heard
 pub mod Quorum
+pub mod Judged
+pub mod Named
+pub mod Whole

@@ -20,11 +20,11 @@ use Rattle.rules.specs.Rules.{rule, addRows}
 use Rattle.rules.proofs.Answered.{Clear, judged}
 use Rattle.state.specs.declared.Fact.the-variants.{Heard}
 use Rattle.state.specs.declared.Number.the-variants.{ToBackOf, DownOf}
-use Rattle.state.specs.Contents.{Contents, adding, insert, store, withEntry}
+use Rattle.state.specs.Contents.{Contents, adding, insert, store, withEntry, enterOn}
 use Rattle.state.specs.Sets.{knownTo}
 use Rattle.state.specs.Sets.{fetched}
 use Rattle.view.specs.View.{told, stateOf}
-use Rattle.view.specs.Effect.{enterOn, effectOn}
+use Rattle.view.specs.Effect.{effectOn}
 use Rattle.view.specs.Good.{Sound}
 use Rattle.view.proofs.Told.{told-hear, told-new}
 

@@ -1,23 +1,17 @@
 -- What a step that is not refused does to the contents: facts are added, numbers stored, entries appended.
 -- It is the effect of `rule`, with heard hashes by their entry numbers (proofs/Meets).
 use Prim.Native.Nat.{_+_}
-use mathlib.Core.Bool.{cond}
-use Rattle.rules.specs.declared.Entry.{Entry}
 use Rattle.rules.specs.declared.Entry.the-variants.{Hash, Backing}
 use Rattle.rules.specs.declared.Step.{Step}
 use Rattle.rules.specs.declared.Step.the-variants.{Post, Hand, Sign, Take, Share, Receipt, Close, Fetch, SendHash, Hear, Back, Publish, FalseSignature, FalseShare, FalseHash, FalseBacking, Down, Up}
 use Rattle.rules.specs.Table.{Table}
-use Rattle.rules.specs.Bag.{isIn, boardNamed}
+use Rattle.rules.specs.Bag.{boardNamed}
 use Rattle.rules.specs.Rules.{boardBy}
 use Rattle.state.specs.declared.Fact.the-variants.{Posted, Signed, Shared, Receipted, Held, Known, Heard}
 use Rattle.state.specs.declared.Number.the-variants.{CurrentOf, ToBackOf, DownOf}
-use Rattle.state.specs.Contents.{Contents, insert, store, withEntry}
+use Rattle.state.specs.Contents.{Contents, insert, store, enterOn}
 use Rattle.state.specs.Sets.{fetched}
 use Rattle.view.specs.View.{stateOf}
-
--- the entry is appended, unless it is there
-unfoldable pub enterOn : Entry → Contents → Contents
-enterOn e c = cond (isIn e (c .bag)) c (withEntry e c)
 
 unfoldable pub effectOn : Table → Contents → Step → Contents
 effectOn T c (Post x) = insert (Posted x) c

@@ -6,33 +6,24 @@ use crate::table::Table;
 use crate::Refusal;
 
 /// 13 false signature: a dishonest peer's, over a posted item.
-pub fn false_signature(
-    table: &Table,
-    state: &mut State,
-    peer: usize,
-    period: usize,
-    item: usize,
-) -> Done {
-    judge_false(table, state, peer, period, item)?;
-    state.signatures.insert((peer, period, item));
+pub fn false_signature(table: &Table, state: &mut State, named: Named) -> Done {
+    judge_false(table, state, named)?;
+    state.signatures.insert(named);
     Ok(())
 }
 
-/// 14 false share: a dishonest peer's, over a posted item.
-pub fn false_share(
-    table: &Table,
-    state: &mut State,
-    peer: usize,
-    period: usize,
-    item: usize,
-) -> Done {
-    judge_false(table, state, peer, period, item)?;
-    state.shares.insert((peer, period, item));
+/// 14 false share: likewise.
+pub fn false_share(table: &Table, state: &mut State, named: Named) -> Done {
+    judge_false(table, state, named)?;
+    state.shares.insert(named);
     Ok(())
 }
+
+/// A peer, a period and an item.
+type Named = (usize, usize, usize);
 
 /// The refusals of 13 and 14.
-fn judge_false(table: &Table, state: &State, peer: usize, period: usize, item: usize) -> Done {
+fn judge_false(table: &Table, state: &State, (peer, period, item): Named) -> Done {
     name_peer(table, peer)?;
     name_period(table, period)?;
     name_item(table, item)?;

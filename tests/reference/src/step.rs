@@ -39,9 +39,9 @@ fn run(table: &Table, state: &mut State, step: Step) -> Done {
         Step::Back { peer } => back(table, state, peer),
         Step::Publish { entry } => publish(table, state, entry),
         Step::FalseSignature { peer, period, item } => {
-            false_signature(table, state, peer, period, item)
+            false_signature(table, state, (peer, period, item))
         }
-        Step::FalseShare { peer, period, item } => false_share(table, state, peer, period, item),
+        Step::FalseShare { peer, period, item } => false_share(table, state, (peer, period, item)),
         Step::FalseHash { peer, period, board } => false_hash(table, state, peer, period, board),
         Step::FalseBacking { peer, period, board } => {
             false_backing(table, state, peer, period, board)

@@ -1,0 +1,4 @@
+pub mod OwnBoard
+pub mod Raised
+pub mod May
+pub mod Did

@@ -1,0 +1,20 @@
+-- The first test that holds gives the answer, in the rules' order: by `row`.
+use Rattle.rules.specs.Rules.{rule, answer}
+use Rattle.view.proofs.Judged.{row, asked}
+use Rattle.closing.proofs.judge.judge_close.Statement.{statement}
+use Rattle.closing.proofs.judge.judge_close.Tie as tie
+
+pub judge-close-spec : {M : Type 1} → statement M
+unfolding answer rule
+judge-close-spec =
+    tie.close
+    (tie.spec
+    (λ c κs. search asked)
+    (λ c. search row depth 8)
+    (λ c κs. search asked)
+    (λ c. search row depth 8)
+    (λ c κs. search asked)
+    (λ c. search row depth 8)
+    (λ c κs. search asked)
+    (λ c. search row depth 8)
+    (λ c. search row depth 8))
