@@ -1,5 +1,6 @@
-// Steps 1 to 6, from a posted item to its receipt, on a state that is ready: each judged by a row of tests, in the order
-// of its refusals, then done in place, with nothing copied and nothing validated again.
+// Steps 1 to 6, from a posted item to its receipt, on a state that is ready.
+// Each is judged by a row of tests, in the order of its refusals, then done in place: nothing is copied, and nothing
+// validated again.
 // It uses the tests of guard to judge, and state to change. It sees no table: of clashes, only the row of the item that
 // is handed.
 ghost use Rattle.rules.specs.declared.Step.the-variants.{Post, Hand, Sign, Take, Share, Receipt};

@@ -1,5 +1,6 @@
-// Steps 7 to 12, from the close of a period to its board, on a state that is ready: each judged by a row of tests, in the
-// order of its refusals, then done in place, with nothing copied and nothing validated again.
+// Steps 7 to 12, from the close of a period to its board, on a state that is ready.
+// Each is judged by a row of tests, in the order of its refusals, then done in place: nothing is copied, and nothing
+// validated again.
 // It uses the tests of guard and bag_guard to judge, and counters, sets, bag and state to change.
 ghost use Rattle.rules.specs.declared.Step.the-variants.{Close, Fetch, SendHash, Hear, Back, Publish};
 ghost use Rattle.view.specs.Ready.{Ready};

@@ -1,5 +1,6 @@
-// Steps 13 to 18, what the outsider does and peers that go down and come up, on a state that is ready: each judged by a
-// row of tests, in the order of its refusals, then done in place, with nothing copied and nothing validated again.
+// Steps 13 to 18, what the outsider does and peers that go down and come up, on a state that is ready.
+// Each is judged by a row of tests, in the order of its refusals, then done in place: nothing is copied, and nothing
+// validated again.
 // It uses the tests of guard and bag_guard to judge, and bag and state to change.
 ghost use Rattle.rules.specs.declared.Step.the-variants.{FalseSignature, FalseShare, FalseHash, FalseBacking, Down, Up};
 ghost use Rattle.view.specs.Ready.{Ready};
