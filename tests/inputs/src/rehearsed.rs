@@ -4,6 +4,7 @@ use reference::form::STEP_LENGTH;
 use reference::report::run;
 use reference::state::State;
 use reference::table::{read_front, Table};
+use reference::totals::totals;
 
 pub struct Rehearsed<'a> {
     pub input: &'a [u8],
@@ -17,13 +18,16 @@ pub struct Outcome {
     pub end: usize,
     pub answers: Vec<u8>,
     pub state: State,
+    /// The figures at the report's foot.
+    pub totals: [usize; 3],
 }
 
 impl Rehearsed<'_> {
     pub fn new(input: &[u8]) -> Rehearsed<'_> {
-        let outcome = run(input).map(|(table, answers, state)| {
+        let outcome = run(input).map(|run| {
             let end = read_front(input).expect("a table that was read").1;
-            Outcome { table, end, answers, state }
+            let totals = totals(&run.made);
+            Outcome { table: run.table, end, answers: run.answers, state: run.state, totals }
         });
         Rehearsed { input, outcome: outcome.map_err(|refusal| refusal.number()) }
     }

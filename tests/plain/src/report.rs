@@ -1,7 +1,7 @@
 //! The rehearsal, from input bytes to the report's bytes.
 
 use crate::advance::advance;
-use crate::state::{State, BOARD, SIZE};
+use crate::state::{Entry, State, BOARD, SIZE};
 use crate::table::Table;
 
 const MOST_INPUT: usize = 65_536;
@@ -71,6 +71,7 @@ impl<'a> Run<'a> {
         self.report_databases(lines);
         self.report_receipts(lines);
         self.report_boards(lines);
+        self.report_totals(lines);
         lines.text(b"end\n");
     }
 
@@ -103,8 +104,12 @@ impl<'a> Run<'a> {
         }
     }
 
+    fn boards(&self) -> impl Iterator<Item = &Entry> {
+        self.state.entries().iter().filter(|entry| entry.kind == BOARD)
+    }
+
     fn report_boards(&self, lines: &mut Lines) {
-        for entry in self.state.entries().iter().filter(|entry| entry.kind == BOARD) {
+        for entry in self.boards() {
             lines.text(b"board ");
             lines.number(entry.period as usize);
             let mut left = entry.board;
@@ -115,6 +120,17 @@ impl<'a> Run<'a> {
             }
             lines.text(b"\n");
         }
+    }
+
+    /// Each board has a backing, so there are at most 128, of 64 items.
+    fn report_totals(&self, lines: &mut Lines) {
+        let receipted = self.state.receipted;
+        let receipts: u32 = receipted.iter().map(|items| items.count_ones()).sum();
+        let items: u32 = self.boards().map(|entry| { entry.board }.count_ones()).sum();
+        lines.text(b"totals ");
+        lines.field({ self.state.posted }.count_ones() as usize);
+        lines.field(receipts as usize);
+        lines.last(items as usize);
     }
 }
 

@@ -11,6 +11,7 @@
 //! - `step`: the refusals of each op in their order, and its effect; those of a
 //!   dishonest peer stand in `false_steps`
 //! - `report`: the rehearsal, from input bytes to output bytes
+//! - `totals`: the figures at its foot, counted from the accepted steps
 //! - `ideal`: the ideal board
 
 mod false_steps;
@@ -21,6 +22,7 @@ pub mod report;
 pub mod state;
 pub mod step;
 pub mod table;
+pub mod totals;
 
 /// The numbers on the report, but for 0 (done) and 14 (state).
 #[derive(Clone, Copy, Debug, PartialEq, Eq)]

@@ -4,33 +4,56 @@ use crate::form::STEP_LENGTH;
 use crate::state::State;
 use crate::step::step;
 use crate::table::{read_front, Table};
+use crate::totals::{made, totals, Made};
 use crate::Refusal;
 
 /// The most bytes that a rehearsal takes.
 pub const INPUT_SIZE: usize = 65_536;
 
+/// What the steps of an input came to.
+pub struct Run {
+    pub table: Table,
+    /// Each step's answer.
+    pub answers: Vec<u8>,
+    /// What the accepted steps made, one after the other.
+    pub made: Vec<Made>,
+    /// The state after the last step.
+    pub state: State,
+}
+
 /// The whole output for a rehearsal input.
 pub fn rehearse(input: &[u8]) -> Vec<u8> {
     match run(input) {
-        Ok((table, answers, state)) => report(&table, &answers, &state).into_bytes(),
+        Ok(run) => report(&run).into_bytes(),
         Err(refusal) => format!("refused {}\n", refusal.number()).into_bytes(),
     }
 }
 
-/// The table, each step's answer, and the state after the last step.
-pub fn run(input: &[u8]) -> Result<(Table, Vec<u8>, State), Refusal> {
+/// The steps of an input, run from the fresh state of its table.
+pub fn run(input: &[u8]) -> Result<Run, Refusal> {
     if input.len() > INPUT_SIZE {
         return Err(Refusal::Input);
     }
     let (table, end) = read_front(input)?;
-    let mut state = State::fresh(&table);
+    let state = State::fresh(&table);
+    let mut run = Run { table, answers: Vec::new(), made: Vec::new(), state };
     // The last chunk may be a short tail: one step, answered 5.
-    let answers =
-        input[end..].chunks(STEP_LENGTH).map(|bytes| step(&table, &mut state, bytes)).collect();
-    Ok((table, answers, state))
+    input[end..].chunks(STEP_LENGTH).for_each(|bytes| run.call(bytes));
+    Ok(run)
 }
 
-fn report(table: &Table, answers: &[u8], state: &State) -> String {
+impl Run {
+    /// One step more. What a publish names is looked up before it is run.
+    fn call(&mut self, bytes: &[u8]) {
+        let made = made(&self.state, bytes);
+        let answer = step(&self.table, &mut self.state, bytes);
+        self.made.extend(made.filter(|_| answer == 0));
+        self.answers.push(answer);
+    }
+}
+
+fn report(run: &Run) -> String {
+    let Run { table, answers, made, state } = run;
     let mut lines = Vec::new();
     lines.push(format!("peers {} threshold {} honest {}", table.n, table.t, table.honest_count()));
     for (k, answer) in answers.iter().enumerate() {
@@ -48,6 +71,8 @@ fn report(table: &Table, answers: &[u8], state: &State) -> String {
         let items: String = board.iter().map(|item| format!(" {}", item)).collect();
         lines.push(format!("board {}{}", period, items));
     }
+    let [posts, receipts, items] = totals(made);
+    lines.push(format!("totals {} {} {}", posts, receipts, items));
     lines.push("end".to_string());
     lines.iter().map(|line| line.to_string() + "\n").collect()
 }

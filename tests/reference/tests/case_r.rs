@@ -10,7 +10,7 @@ const CASE_R_TABLE: [u8; 15] =
     [0x01, 0x01, 0x00, 0x01, 0x01, 0x01, 0x00, 0x0A, 0x00, 0x05, 0x00, 0x00, 0x00, 0x07, 0x02];
 
 const CASE_R_OUTPUT: &str = "peers 1 threshold 1 honest 1 / 1 0 / 2 0 / 3 0 / 4 0 / 5 0 / 6 0 / \
-    7 0 / 8 0 / 9 0 / 10 0 / db 1 0 0 1 / receipt 0 0 / board 0 0 / end";
+    7 0 / 8 0 / 9 0 / 10 0 / db 1 0 0 1 / receipt 0 0 / board 0 0 / totals 1 1 1 / end";
 
 fn case_r_steps() -> Vec<Step> {
     vec![
@@ -39,16 +39,17 @@ fn case_r_exactly() {
 
 #[test]
 fn a_table_and_no_steps() {
-    assert_eq!(output(&CASE_R_TABLE), "peers 1 threshold 1 honest 1\nend\n");
+    assert_eq!(output(&CASE_R_TABLE), "peers 1 threshold 1 honest 1\ntotals 0 0 0\nend\n");
     let empty = table_bytes(3, 3, &[], 1, &[]);
-    assert_eq!(output(&empty), "peers 3 threshold 3 honest 0\nend\n");
+    assert_eq!(output(&empty), "peers 3 threshold 3 honest 0\ntotals 0 0 0\nend\n");
 }
 
 #[test]
 fn a_short_tail_is_one_step_answered_5() {
     let mut input = rehearsal(&CASE_R_TABLE, &[Step::Post { item: 0 }]);
     input.push(1);
-    assert_eq!(output(&input), "peers 1 threshold 1 honest 1\n1 0\n2 5\nend\n");
+    let expected = "peers 1 threshold 1 honest 1\n1 0\n2 5\ntotals 1 0 0\nend\n";
+    assert_eq!(output(&input), expected);
 }
 
 #[test]
@@ -66,7 +67,7 @@ fn over_65536_bytes_is_15_before_all() {
     input.resize(65_536, 0);
     let lines = output(&input);
     // 6 bytes of table leave 5040 whole steps and a tail of 10 bytes.
-    assert!(lines.ends_with("5041 5\nend\n"));
+    assert!(lines.ends_with("5041 5\ntotals 0 0 0\nend\n"));
     input.push(0);
     assert_eq!(output(&input), "refused 15\n");
     assert_eq!(output(&vec![0; 65_537]), "refused 15\n");
@@ -84,7 +85,7 @@ fn an_empty_board_shows_its_period_only() {
         Step::Publish { entry: 1 },
     ];
     let lines = output(&rehearsal(&table, &steps));
-    assert!(lines.ends_with("5 0\nboard 0\nend\n"), "{lines}");
+    assert!(lines.ends_with("5 0\nboard 0\ntotals 0 0 0\nend\n"), "{lines}");
 }
 
 /// Lines rise in the fields shown; boards come in bag order.
@@ -110,7 +111,9 @@ fn the_order_of_lines() {
         Step::Publish { entry: 1 },
     ];
     let lines = output(&rehearsal(&table, &steps));
-    let tail = "receipt 0 0\nreceipt 0 2\nreceipt 1 0\nboard 1 0 2\nboard 0\nboard 0 2\nend\n";
+    // Items 0 and 2 are posted; the boards have two items, none and one.
+    let tail = "receipt 0 0\nreceipt 0 2\nreceipt 1 0\nboard 1 0 2\nboard 0\nboard 0 2\n\
+        totals 2 3 3\nend\n";
     assert!(lines.starts_with("peers 1 threshold 1 honest 0\n1 0\n"), "{lines}");
     assert!(lines.ends_with(tail), "{lines}");
 }
