@@ -1,5 +1,6 @@
 //! Every kind of rehearsal, and how many of each are made.
 
+use crate::counted::*;
 use crate::odd::*;
 use crate::random::Random;
 use crate::rehearsed::Rehearsed;
@@ -23,7 +24,7 @@ const fn kind(times: usize, name: &'static str, make: Make, fits: fn(&Rehearsed)
     Kind { times, name, make, fits }
 }
 
-pub static KINDS: [Kind; 26] = [
+pub static KINDS: [Kind; 30] = [
     kind(60, "a run", run, |r| r.is(|o| o.answers.len() >= 20)),
     kind(16, "shuffled steps", shuffled, |r| r.is(|o| o.answers.len() >= 10)),
     kind(16, "repeated steps", repeated, |r| r.is(|o| o.answers.len() >= 10)),
@@ -56,6 +57,10 @@ pub static KINDS: [Kind; 26] = [
         r.outcome.is_err() && ends_so(r, |end| end == 65_536)
     }),
     kind(6, "a sum that would wrap", wrapped, |r| r.is_refused(2) && wraps(r)),
+    kind(6, "posts that come again", posts_again, |r| comes_again(r, 1)),
+    kind(6, "receipts that come again", receipts_again, |r| comes_again(r, 6)),
+    kind(6, "publishes that come again", publishes_again, |r| comes_again(r, 12)),
+    kind(7, "two boards of one period", two_boards, |r| r.is(has_two_boards)),
 ];
 
 /// The number of rehearsals in a round.

@@ -8,14 +8,16 @@
 //! - `protocol`: long rehearsals in which nearly everything is taken
 //! - `bursts`: runs in bursts, shuffled, repeated and lost
 //! - `rehearsed`: a rehearsal with what the reference makes of it
-//! - `runs`, `wide`, `odd`: rehearsals in the protocol's shape, those with the
-//!   most to report, and those that are refused
+//! - `runs`, `wide`, `counted`, `odd`: rehearsals in the protocol's shape, those
+//!   with the most to report, those whose totals are easily counted wrong, and
+//!   those that are refused
 //! - `kinds`: every kind of rehearsal
 //! - `answers`: which answers the steps got
 //! - `stored`: the rehearsals that are stored, with their reports
 
 pub mod answers;
 mod bursts;
+mod counted;
 pub mod kinds;
 pub mod making;
 mod odd;

@@ -58,7 +58,7 @@ pub fn short_tail(random: &mut Random, number: usize) -> Vec<u8> {
 }
 
 /// One or two periods with nothing lost.
-fn good(random: &mut Random, number: usize) -> Making<'_> {
+pub fn good(random: &mut Random, number: usize) -> Making<'_> {
     let n = [1, 2, 3, 4, 5, 6, 16][number % 7];
     let shape = Shape { n, periods: random.between(1, 3), m: random.between(1, 8) };
     let (periods, liars) = (shape.periods.min(random.between(1, 2)), random.below(3));
