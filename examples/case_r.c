@@ -36,7 +36,7 @@ static const uint8_t steps[][BOARD_STEP_LENGTH] = {
 static const char report[] =
     "peers 1 threshold 1 honest 1\n"
     "1 0\n2 0\n3 0\n4 0\n5 0\n6 0\n7 0\n8 0\n9 0\n10 0\n"
-    "db 1 0 0 1\nreceipt 0 0\nboard 0 0\nend\n";
+    "db 1 0 0 1\nreceipt 0 0\nboard 0 0\ntotals 1 1 1\nend\n";
 
 /* Step by step from the fresh state, to a bag with the board in it. */
 static int is_stepped(uint8_t *state, size_t length) {

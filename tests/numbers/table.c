@@ -45,7 +45,8 @@ static void check_lengths(void) {
 /* The header's fields have different values, and the report says them. */
 static void check_table(void) {
     char line[100];
-    int written = snprintf(line, sizeof line, "peers %d threshold %d honest %d\nend\n", PEERS, THRESHOLD, HONEST);
+    int written = snprintf(line, sizeof line, "peers %d threshold %d honest %d\ntotals 0 0 0\nend\n",
+                           PEERS, THRESHOLD, HONEST);
     put_table();
     CHECK(board_check_table(table, table_length) == BOARD_DONE);
     CHECK(refusal_of(0, BOARD_STATE_LENGTH) == BOARD_DONE);
