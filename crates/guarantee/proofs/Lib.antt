@@ -1,3 +1,5 @@
 pub mod Demand3
 pub mod Rehearsals
+pub mod Totals
+pub mod TotalsWorked
 pub mod Worked

@@ -42,7 +42,7 @@ module _ (input : List ℕ) where
       ∙ leads n (suc k) later
       ∙ ap (λ (i : ℕ). stateOf (contents (stateAt input i))) {x = n + suc k} {y = suc n + k} (omega arith)
 
-  shown : stateOf (contents (lastState input)) ≡ afterCalls table (callsIn input) .engine
+  pub shown : stateOf (contents (lastState input)) ≡ afterCalls table (callsIn input) .engine
   unfolding lastState after stateAt
   shown =
       sym (ap (λ (calls : List (List ℕ)). run freshState [] calls .engine)

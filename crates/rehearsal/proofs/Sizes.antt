@@ -64,7 +64,7 @@ module _ (input : List ℕ) (T : Taken input) where
       (rw (step-answers table (T .table) (stateAt input k) (state-ready input T k) (callAt input k))
       (reply-small (rulesTable table) (stateOf (contents (stateAt input k))) (read (callAt input k)))))
 
-  shown-most : length (stateLines (headOf table) (contents (lastState input))) ≤ 181252
+  shown-most : length (stateLines (headOf table) (contents (lastState input))) ≤ 181272
   unfolding lastState
   shown-most =
       let R = state-ready input T (stepCount input) in

@@ -17,12 +17,15 @@ use Rattle.state.specs.Contents.{Contents}
 use Rattle.state.specs.Sets.{signersOf}
 use Rattle.header.specs.declared.Head.{Head}
 use Rattle.header.specs.Quorum.{room, countIn}
+use Rattle.view.specs.View.{stateOf}
+use Rattle.figures.proofs.Most.{totals-most}
 use Rattle.text.specs.Wrote.{each}
 use Rattle.text.specs.Decimal.{field}
 use Rattle.text.proofs.Digits.{decimal-most, field-most}
 use Rattle.report.specs.Words.{db, receipt, newline}
-use Rattle.report.specs.Lines.{refusedLine, headLine, stepLine, dbLine, receiptLine, boardItem, boardLine}
-use Rattle.report.specs.State.{dbItem, dbPeriod, dbPeer, dbLines, receiptItem, receiptPeriod, receiptLines, entryLine, bagLine, boardLines, stateLines}
+use Rattle.report.specs.Lines.{refusedLine, headLine, stepLine, dbLine, receiptLine, boardItem, boardLine, totalsLine}
+use Rattle.report.specs.State.{dbItem, dbPeriod, dbPeer, dbLines, receiptItem, receiptPeriod, receiptLines}
+use Rattle.report.specs.State.{entryLine, bagLine, boardLines, totalsOn, foot, shownLines, stateLines}
 
 -- texts in a row, and a text where a test holds
 
@@ -100,16 +103,30 @@ module _ (h : Head) (few-peers : h .n ≤ 16) (few-periods : h .periods ≤ 8) (
   entry-most (Backing k p B) l = omega arith
   entry-most (Board p B) l = board-most p B l
 
+  foot-most : length (c .bag) ≤ 256 → length (foot (totalsOn h c)) ≤ 24
+  unfolding foot totalsLine
+  foot-most few =
+      let f = totalsOn h c in
+      let m = totals-most h (stateOf c) few-periods few-items few in
+      simp length-append
+      (omega (
+        arith,
+        field-most 1 (f .posts) (omega (arith, m .posts)),
+        field-most 2 (f .receipts) (omega (arith, m .receipts)),
+        field-most 4 (f .items) (omega (arith, m .items)),
+      ))
+
   -- a bag of at most 256 entries, with small periods
   pub state-most : length (c .bag) ≤ 256 → ((e : ℕ) → e < length (c .bag) → periodOf (entryAt (c .bag) e) < 1000)
-      → length (stateLines h c) ≤ 181252
-  unfolding stateLines boardLines bagLine
+      → length (stateLines h c) ≤ 181272
+  unfolding stateLines shownLines boardLines bagLine
   state-most few small =
       simp length-append
       (omega (
         arith,
         dbs-most,
         receipts-most,
+        foot-most few,
         each-most (bagLine h c) 202 (length (c .bag)) 256 few
             (λ e l. entry-most (entryAt (c .bag) e) (small e l)),
       ))

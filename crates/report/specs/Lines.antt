@@ -5,7 +5,8 @@ use mathlib.Core.List.{List, [], _++_}
 use Rattle.base.specs.Bits.{bit}
 use Rattle.text.specs.Wrote.{each}
 use Rattle.text.specs.Decimal.{decimal, field}
-use Rattle.report.specs.Words.{peers, threshold, honest, refused, db, receipt, board, newline}
+use Rattle.figures.specs.declared.Totals.{Totals}
+use Rattle.report.specs.Words.{peers, threshold, honest, refused, db, receipt, board, totals, newline}
 
 -- what is refused: its number
 unfoldable pub refusedLine : ℕ → List ℕ
@@ -34,3 +35,7 @@ boardItem B x = cond (bit B x) (field x) []
 -- a board: period, and those of m items that it has; one of no items shows its period only
 unfoldable pub boardLine : ℕ → ℕ → ℕ → List ℕ
 boardLine m p B = board ++ field p ++ each (boardItem B) m ++ newline
+
+-- the totals: items posted, receipts, items of all boards
+unfoldable pub totalsLine : Totals → List ℕ
+totalsLine f = totals ++ field (f .posts) ++ field (f .receipts) ++ field (f .items) ++ newline

@@ -1,4 +1,4 @@
--- What the report shows of a state: databases, receipts and boards.
+-- What the report shows of a state: databases, receipts, boards and totals.
 -- All but boards rise in the fields shown; boards keep the bag's order.
 use Prim.Native.Nat.{ℕ, _+_}
 use mathlib.Core.Bool.{cond}
@@ -13,9 +13,12 @@ use Rattle.state.specs.Contents.{Contents}
 use Rattle.state.specs.Sets.{signersOf}
 use Rattle.header.specs.declared.Head.{Head}
 use Rattle.header.specs.Quorum.{countIn}
+use Rattle.view.specs.View.{stateOf}
+use Rattle.figures.specs.declared.Totals.{Totals}
+use Rattle.figures.specs.Totals.{totalsIn, outsideOf}
 use Rattle.text.specs.Wrote.{each}
 use Rattle.report.specs.Words.{end}
-use Rattle.report.specs.Lines.{dbLine, receiptLine, boardLine}
+use Rattle.report.specs.Lines.{dbLine, receiptLine, boardLine, totalsLine}
 
 -- how many signers item x has in peer j's database of period p; an empty set is left out
 unfoldable pub dbItem : Contents → ℕ → ℕ → ℕ → List ℕ
@@ -52,6 +55,18 @@ bagLine h c e = entryLine h (entryAt (c .bag) e)
 unfoldable pub boardLines : Head → Contents → List ℕ
 boardLines h c = each (bagLine h c) (length (c .bag))
 
+-- the totals of what is held
+abbrev pub totalsOn : Head → Contents → Totals
+totalsOn h c = totalsIn h (outsideOf (stateOf c))
+
+-- the report's last two lines
+unfoldable pub foot : Totals → List ℕ
+foot f = totalsLine f ++ end
+
+-- the lines of a state above its totals
+unfoldable pub shownLines : Head → Contents → List ℕ
+shownLines h c = dbLines h c ++ receiptLines h c ++ boardLines h c
+
 -- the report from its databases to its end
 unfoldable pub stateLines : Head → Contents → List ℕ
-stateLines h c = dbLines h c ++ receiptLines h c ++ boardLines h c ++ end
+stateLines h c = shownLines h c ++ foot (totalsOn h c)

@@ -30,6 +30,10 @@ receipt = 114 ∷ 101 ∷ 99 ∷ 101 ∷ 105 ∷ 112 ∷ 116 ∷ []
 abbrev pub board : List ℕ
 board = 98 ∷ 111 ∷ 97 ∷ 114 ∷ 100 ∷ []
 
+-- `totals`
+abbrev pub totals : List ℕ
+totals = 116 ∷ 111 ∷ 116 ∷ 97 ∷ 108 ∷ 115 ∷ []
+
 -- `end` and the end of its line
 abbrev pub end : List ℕ
 end = 101 ∷ 110 ∷ 100 ∷ 10 ∷ []

@@ -4,6 +4,8 @@ ghost use mathlib.Core.Path.{_≡_};
 ghost use Rattle.base.specs.Bits.{bit};
 ghost use Rattle.text.specs.Wrote.{Wrote, each};
 ghost use Rattle.report.specs.Lines.{refusedLine, headLine, stepLine, dbLine, receiptLine, boardItem, boardLine};
+ghost use Rattle.report.specs.Lines.{totalsLine};
+use figures::Totals;
 use text::put_byte;
 use text::put_decimal;
 use text::put_field;
@@ -105,4 +107,15 @@ pub fn put_board(out: &mut [u8], at: usize, m: u8, p: u8, board: u64) -> usize
     let b = put_small(out, a, p);
     let c = put_items(out, b, board, m);
     put_byte(out, c, b'\n')
+}
+
+// The line of the totals.
+pub fn put_totals(out: &mut [u8], at: usize, f: Totals) -> usize
+    ensures { λ to. ⌜ Wrote (now (out .entry)) at (totalsLine f) (now (out .exit)) to ⌝ }
+{
+    let a = put_word(out, at, b"totals");
+    let b = put_field(out, a, f.posts as u64);
+    let c = put_field(out, b, f.receipts as u64);
+    let d = put_field(out, c, f.items as u64);
+    put_byte(out, d, b'\n')
 }

@@ -1,16 +1,18 @@
-// What the report shows of a state: databases, receipts, boards, and its last line.
+// What the report shows of a state: databases, receipts, boards, totals, and its last line.
 ghost use mathlib.Core.Path.{_≡_};
 ghost use Prim.Native.Nat.{_+_, _<_, _≤_};
 ghost use Rattle.state.specs.Contents.{contents, Canon};
 ghost use Rattle.text.specs.Wrote.{Wrote};
 ghost use Rattle.report.specs.Rows.{setLine, rowLines, rowIn};
 ghost use Rattle.report.specs.State.{dbPeer, dbLines, receiptItem, receiptPeriod, receiptLines};
-ghost use Rattle.report.specs.State.{entryLine, bagLine, boardLines, stateLines};
+ghost use Rattle.report.specs.State.{entryLine, bagLine, boardLines, foot, stateLines};
 use crate::lines::put_board;
 use crate::lines::put_db;
 use crate::lines::put_receipt;
+use crate::lines::put_totals;
 use bag::bag_len;
 use bag::entry_at;
+use figures::Totals;
 use header::Head;
 use header::Signers;
 use header::quorum::signer_count;
@@ -162,6 +164,14 @@ fn put_boards(out: &mut [u8], at: usize, s: &[u8], h: Head) -> usize
     to
 }
 
+// The report's last two lines.
+fn put_foot(out: &mut [u8], at: usize, f: Totals) -> usize
+    ensures { λ to. ⌜ Wrote (now (out .entry)) at (foot f) (now (out .exit)) to ⌝ }
+{
+    let to = put_totals(out, at, f);
+    put_word(out, to, b"end\n")
+}
+
 // The report from its databases to its end.
 pub fn put_state(out: &mut [u8], at: usize, s: &[u8], h: Head) -> usize
     requires { ⌜ Canon (now s) × (h .n ≤ 16) × (h .items ≤ 64) ⌝ }
@@ -170,5 +180,5 @@ pub fn put_state(out: &mut [u8], at: usize, s: &[u8], h: Head) -> usize
     let a = put_dbs(out, at, s, h);
     let b = put_receipts(out, a, s, h);
     let c = put_boards(out, b, s, h);
-    put_word(out, c, b"end\n")
+    put_foot(out, c, figures::count(s, h))
 }

@@ -1,5 +1,5 @@
 -- A set that stands in whole bytes is the number in those bytes.
-use Prim.Native.Nat.{ℕ, _+_, _*_, _<_}
+use Prim.Native.Nat.{ℕ, _+_, _*_, _<_, _≤_}
 use native.Mathlib.Omega.{arith}
 use mathlib.Core.Bool.{Bool, true, false}
 use mathlib.Core.List.{List}
@@ -14,12 +14,13 @@ use Rattle.bits.proofs.Number.{num-pack}
 use Rattle.header.specs.declared.Signers.{Signers}
 use Rattle.header.specs.declared.Sharers.{Sharers}
 use Rattle.state.specs.declared.Fact.{Fact}
-use Rattle.state.specs.declared.Fact.the-variants.{Posted, Shared, Held, Known}
-use Rattle.state.specs.Layout.{peers, items, peerBytes, itemBytes, postedAt, sharedAt, heldAt, databaseAt}
+use Rattle.state.specs.declared.Fact.the-variants.{Posted, Shared, Receipted, Held, Known}
+use Rattle.state.specs.Layout.{peers, periods, items, peerBytes, itemBytes, postedAt, sharedAt, receiptedAt, heldAt, databaseAt}
 use Rattle.state.specs.Facts.{inRange, Within, isCell, isRow, isSpot}
 use Rattle.state.specs.Places.{place, cell, row, spot}
 use Rattle.state.specs.Contents.{contents, Canon}
 use Rattle.state.specs.Sets.{signersOf, sharersOf, heldOf, postedOf}
+use Rattle.sets.specs.Receipts.{receiptedOf}
 use Rattle.state.proofs.Ranges.{range-within, within-range, cell-within, within-cell, row-within, within-row, spot-within, within-spot}
 use Rattle.state.proofs.Frame.{has-bit, has-none}
 
@@ -88,6 +89,15 @@ module _ (s : List ℕ) (b : Bool) where
     unfolding heldOf
     held-out n =
         facts-out s items (Held j p) (λ k r. let h = range-within (Held j p k) r in split (within-row j p (h .0, h .1 .0)) (sym e ∙ n))
+
+module _ (s : List ℕ) (p : ℕ) where
+  pub receipts-in : Canon s → p < periods → (w : ℕ) → w ≡ num itemBytes s (receiptedAt + itemBytes * p) → w ≡ receiptedOf (contents s) p
+  unfolding receiptedOf
+  receipts-in c h w q = q ∙ facts-in s itemBytes (receiptedAt + itemBytes * p) (Receipted p) c (λ k l. ((h, l), omega arith))
+
+  pub receipts-out : periods ≤ p → 0 ≡ receiptedOf (contents s) p
+  unfolding receiptedOf
+  receipts-out h = facts-out s items (Receipted p) (λ k r. absurd (omega (arith, h, range-within (Receipted p k) r .0)))
 
 pub posted-inside : (s : List ℕ) → Canon s → num itemBytes s postedAt ≡ postedOf (contents s)
 unfolding postedOf

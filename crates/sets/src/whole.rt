@@ -3,6 +3,7 @@ ghost use mathlib.Core.Path.{_≡_};
 ghost use Rattle.state.specs.Facts.{Spot};
 ghost use Rattle.state.specs.Contents.{contents, Canon, Holds, adding};
 ghost use Rattle.state.specs.Sets.{signersOf, sharersOf, heldOf, postedOf, onItem, knownTo};
+ghost use Rattle.sets.specs.Receipts.{receiptedOf};
 use header::Sharers;
 use header::Signers;
 use state::layout;
@@ -56,6 +57,22 @@ pub fn posted(s: &[u8]) -> u64
     ensures { λ r. ⌜ r ≡ postedOf (contents (now (s .entry))) ⌝ }
 {
     bits::load(s, layout::POSTED, layout::ITEM_BYTES)
+}
+
+// The items for which there is a receipt of period p.
+pub fn receipted_in(s: &[u8], p: u8) -> u64
+    requires { ⌜ Canon (now s) ⌝ }
+    ensures { λ r. ⌜ r ≡ receiptedOf (contents (now (s .entry))) p ⌝ }
+{
+    let i = p as usize;
+    if i < layout::PERIODS {
+        return bits::load(
+            s,
+            layout::RECEIPTED + layout::ITEM_BYTES * i,
+            layout::ITEM_BYTES,
+        );
+    }
+    0
 }
 
 // Adds a set of signers on item i to peer j's database of period p.

@@ -1,0 +1,81 @@
+-- Laws of sums: sums that agree, a loop that adds one number after the other, and the bits of a number counted by the machine.
+use Prim.Native.Nat.{ℕ, zero, suc, _+_, _-_, _*_, _%_, _^_, _≤_, _<_}
+use native.Mathlib.Nat.{le-antisymm}
+use native.Mathlib.Numerals.{add-one}
+use native.Mathlib.Omega.{arith}
+use mathlib.Core.Bool.{Bool, true, false, cond}
+use mathlib.Core.Path.{_≡_, refl, sym, ap, ap₂, _∙_}
+use lib.Count as machine
+use Rattle.base.specs.Bits.{bit, digit, pack}
+use Rattle.base.specs.Weight.{weight, ones}
+use Rattle.base.proofs.Bits.{digit-lt, pack-ext}
+use Rattle.base.proofs.Count.{ones-pack}
+use Rattle.figures.specs.Sums.{sum, howMany}
+
+pub sum-ext : (n : ℕ) (f g : ℕ → ℕ) → ((k : ℕ) → k < n → f k ≡ g k) → sum n f ≡ sum n g
+unfolding sum
+sum-ext zero f g e = refl
+sum-ext (suc n) f g e = ap₂ _+_ (sum-ext n f g (λ k l. e k (omega arith))) (e n (omega arith))
+
+pub sum-zero : (n : ℕ) (f : ℕ → ℕ) → ((k : ℕ) → k < n → f k ≡ 0) → sum n f ≡ 0
+unfolding sum
+sum-zero zero f e = refl
+sum-zero (suc n) f e = omega (arith, sum-zero n f (λ k l. e k (omega arith)), e n (omega arith))
+
+-- a loop: no number yet, one more, all
+
+pub sum-none : (f : ℕ → ℕ) → 0 ≡ sum 0 f
+unfolding sum
+sum-none f = refl
+
+pub sum-more : (f : ℕ → ℕ) (k v w : ℕ) → v ≡ sum k f → w ≡ f k → v + w ≡ sum (k + 1) f
+unfolding sum
+sum-more f k v w a b = rw (add-one k) (ap₂ _+_ a b)
+
+pub sum-all : (f : ℕ → ℕ) (k n v : ℕ) → k ≤ n → n ≤ k → v ≡ sum k f → v ≡ sum n f
+sum-all f k n v a b e = e ∙ ap (λ (i : ℕ). sum i f) (le-antisymm a b)
+
+-- none of n numbers is above c, and n is at most m
+pub sum-most : (f : ℕ → ℕ) (c n m : ℕ) → n ≤ m → ((k : ℕ) → k < n → f k ≤ c) → sum n f ≤ m * c
+unfolding sum
+sum-most f c zero m l h = omega arith
+sum-most f c (suc n) zero l h = absurd (omega arith)
+sum-most f c (suc n) (suc m) l h = omega (arith, sum-most f c n m (omega arith) (λ k b. h k (omega arith)), h n (omega arith))
+
+-- how many are in a set
+
+pub how-many-ext : (n : ℕ) (S R : ℕ → Bool) → ((k : ℕ) → k < n → S k ≡ R k) → howMany n S ≡ howMany n R
+unfolding howMany
+how-many-ext n S R e = sum-ext n (λ k. digit (S k)) (λ k. digit (R k)) (λ k l. ap digit (e k l))
+
+digits-most : (n : ℕ) (S : ℕ → Bool) → sum n (λ k. digit (S k)) ≤ n
+unfolding sum
+digits-most zero S = omega arith
+digits-most (suc n) S = omega (arith, digits-most n S, digit-lt (S n))
+
+pub how-many-most : (n : ℕ) (S : ℕ → Bool) → howMany n S ≤ n
+unfolding howMany
+how-many-most = digits-most
+
+as-digit : (b : Bool) → cond b 1 0 ≡ digit b
+as-digit true = refl
+as-digit false = refl
+
+-- as peers are counted, from 1
+weighed : (n : ℕ) (S : ℕ → Bool) → weight ones n (λ k. S (k - 1)) ≡ sum n (λ k. digit (S k))
+unfolding weight sum
+weighed zero S = refl
+weighed (suc n) S = ap₂ _+_ (weighed n S) (as-digit (S (suc n - 1)) ∙ ap (λ (k : ℕ). digit (S k)) {x = suc n - 1} {y = n} (omega arith))
+
+-- the machine counts the bits of the number whose bits below n are those of S
+pub ones-counted : (n : ℕ) (S : ℕ → Bool) → machine.ones (pack n S) ≡ howMany n S
+unfolding howMany
+ones-counted n S =
+    ap machine.ones (pack-ext n S (λ k. S (k + 1 - 1)) (λ k l. ap S {x = k} {y = k + 1 - 1} (omega arith)))
+    ∙ ones-pack n (λ k. S (k - 1)) ∙ weighed n S
+
+-- the first number apart
+pub sum-first : (n : ℕ) (f : ℕ → ℕ) → sum (suc n) f ≡ f 0 + sum n (λ k. f (suc k))
+unfolding sum
+sum-first zero f = omega arith
+sum-first (suc n) f = omega (arith, sum-first n f)

@@ -1,0 +1,44 @@
+-- The totals: a report's foot says what the accepted steps made. There is no premise on honesty.
+use Prim.Native.Nat.{ℕ, _^_, _<_}
+use mathlib.Core.Bool.{true}
+use mathlib.Core.List.{List, _++_}
+use mathlib.Core.Path.{_≡_}
+use Rattle.header.specs.Header.{headOf, periodsOf, itemsOf}
+use Rattle.rules.specs.Ideal.{Fed, isThere}
+use Rattle.rules.specs.Outside.{postsMade, receiptsMade, boardsMade}
+use Rattle.figures.specs.declared.Totals.{Totals}
+use Rattle.figures.specs.Totals.{totalsIn, outsideOf, madeBy}
+use Rattle.report.specs.State.{foot}
+use Rattle.reading.specs.Report.{Agrees}
+use Rattle.rehearsal.specs.Input.{tableIn}
+use Rattle.rehearsal.specs.Rehearsal.{reportOf}
+use Rattle.guarantee.specs.Demand3.{afterCalls}
+use Rattle.guarantee.specs.Rehearsed.{callsIn}
+
+-- the totals of what steps with their answers have made, counted from these steps, by a table's periods and items
+abbrev pub totalsMade : List ℕ → List Fed → Totals
+totalsMade table seen = totalsIn (headOf table) (madeBy seen)
+
+-- after a list of calls; "so far" is every such list
+pub record TotalsTrue (table : List ℕ) (calls : List (List ℕ)) : Type 0 where
+  -- what is held has the totals of what the accepted calls made
+  pub counted : totalsIn (headOf table) (outsideOf (afterCalls table calls .engine)) ≡ totalsMade table (afterCalls table calls .seen)
+  -- and of what they made nothing is left out: posts, receipts and boards are of the table's periods and items
+  pub posts : (x : ℕ) → postsMade (afterCalls table calls .seen) x ≡ true → x < itemsOf table
+  pub receipts : (p x : ℕ) → receiptsMade (afterCalls table calls .seen) p x ≡ true → (p < periodsOf table) × (x < itemsOf table)
+  pub boards : (p B : ℕ) → isThere (boardsMade (afterCalls table calls .seen)) p B ≡ true
+      → (p < periodsOf table) × (B < 2 ^ itemsOf table)
+
+-- the totals of what an input's own calls made: of the steps that demand 3's ideal board is fed with
+abbrev pub totalsOfInput : List ℕ → Totals
+totalsOfInput input = totalsMade (tableIn input) (afterCalls (tableIn input) (callsIn input) .seen)
+
+-- the report of an input
+pub record TotalsShown (input : List ℕ) : Type 0 where
+  -- its last two lines are the line of these totals, and `end`
+  pub above : List ℕ
+  pub ends : reportOf input ≡ above ++ foot (totalsOfInput input)
+  -- and the two last figures are those of the lines above, and of the whole report: the receipt lines, and the item
+  -- fields of the board lines
+  pub lines-above : Agrees above (totalsOfInput input)
+  pub all-lines : Agrees (reportOf input) (totalsOfInput input)

@@ -1,0 +1,197 @@
+-- What each line of a report adds to the receipt lines and to the item fields, and what the lines of a state add.
+use Prim.Native.Nat.{ℕ, zero, suc, _+_, _-_, _≤_, _<_}
+use native.Mathlib.Omega.{arith}
+use mathlib.Core.Bool.{Bool, true, false, cond}
+use mathlib.Core.List.{List, [], _∷_, _++_}
+use mathlib.Core.Path.{_≡_, refl, ap, subst, _∙_}
+use lib.Dec.{eqb, ltb}
+use lib.ListN.{length}
+use Rattle.base.specs.Bits.{bit, digit}
+use Rattle.header.specs.declared.Head.{Head}
+use Rattle.header.specs.Quorum.{countIn}
+use Rattle.rules.specs.declared.Entry.{Entry}
+use Rattle.rules.specs.declared.Entry.the-variants.{Hash, Backing, Board}
+use Rattle.rules.specs.Bag.{entryAt}
+use Rattle.state.specs.declared.Fact.the-variants.{Receipted}
+use Rattle.state.specs.Contents.{Contents}
+use Rattle.state.specs.Sets.{signersOf}
+use Rattle.figures.specs.declared.Totals.{Totals}
+use Rattle.figures.specs.Sums.{sum, howMany}
+use Rattle.figures.specs.Totals.{receiptCount, totalsIn}
+use Rattle.figures.specs.Entries.{entryItems}
+use Rattle.figures.proofs.Sums.{sum-ext, sum-zero}
+use Rattle.figures.proofs.Counted.{bag-counted}
+use Rattle.text.specs.Wrote.{each}
+use Rattle.text.specs.Decimal.{decimal, field}
+use Rattle.report.specs.Words.{peers, threshold, honest, db, receipt, board, totals}
+use Rattle.report.specs.Lines.{headLine, stepLine, dbLine, receiptLine, boardItem, boardLine, totalsLine}
+use Rattle.report.specs.State.{dbItem, dbPeriod, dbPeer, dbLines, receiptItem, receiptPeriod, receiptLines}
+use Rattle.report.specs.State.{entryLine, bagLine, boardLines, totalsOn, shownLines, foot}
+use Rattle.reading.specs.Read.{linesOf, timesIn, begins, tally}
+use Rattle.reading.specs.Report.{receiptLinesIn, fieldsOf, itemFieldsIn, Agrees}
+use Rattle.reading.proofs.Read.{Adds, adds-none, _▹_, adds-line, other-line, adds-if, adds-all}
+use Rattle.reading.proofs.Read.{Within, word-within, _&_, decimal-within, field-within, times-append, field-blank, decimal-first}
+
+-- how often a byte stands in each of a row of texts
+times-each : (b : ℕ) (f : ℕ → List ℕ) (n : ℕ) → timesIn b (each f n) ≡ sum n (λ k. timesIn b (f k))
+unfolding each sum timesIn
+times-each b f zero = refl
+times-each b f (suc n) = times-append b (each f n) (f n) ∙ omega (arith, times-each b f n)
+
+module _ {word : List ℕ} {v : List ℕ → ℕ} where
+  -- each of a row of texts
+  pub adds-each : (f : ℕ → List ℕ) (g : ℕ → ℕ) (n : ℕ) → ((k : ℕ) → k < n → Adds word v (f k) (g k)) → Adds word v (each f n) (sum n g)
+  unfolding each sum
+  adds-each f g zero h = adds-none
+  adds-each f g (suc n) h = adds-each f g n (λ k l. h k (omega arith)) ▹ h n (omega arith)
+
+  none-if : (t : Bool) {u : List ℕ} → Adds word v u 0 → Adds word v (cond t u []) 0
+  none-if true x = x
+  none-if false x = adds-none
+
+  one-if : (t : Bool) {u : List ℕ} → Adds word v u 1 → Adds word v (cond t u []) (digit t)
+  one-if true x = x
+  one-if false x = adds-none
+
+  adds-as : {u : List ℕ} {j k : ℕ} → j ≡ k → Adds word v u j → Adds word v u k
+  adds-as {u} e x = subst (λ (i : ℕ). Adds word v u i) e x
+
+  pub each-none : (f : ℕ → List ℕ) (n : ℕ) → ((k : ℕ) → k < n → Adds word v (f k) 0) → Adds word v (each f n) 0
+  unfolding each
+  each-none f zero h = adds-none
+  each-none f (suc n) h = each-none f n (λ k l. h k (omega arith)) ▹ h n (omega arith)
+
+-- lines that begin with neither word: `peers` with 112, a number with a digit, `db` with 100
+module _ {b : ℕ} {rest : List ℕ} (p : eqb 112 b ≡ false) (d : eqb 100 b ≡ false) (letter : 58 ≤ b) {v : List ℕ → ℕ} where
+  pub head-adds : (n t h : ℕ) → Adds (b ∷ rest) v (headLine n t h) 0
+  unfolding headLine begins timesIn
+  head-adds n t h =
+      other-line (word-within peers refl & field-within n & word-within threshold refl & field-within t & word-within honest refl & field-within h)
+      (rw p)
+
+  pub step-adds : (k a : ℕ) → Adds (b ∷ rest) v (stepLine k a) 0
+  unfolding stepLine
+  step-adds k a = other-line (decimal-within k & field-within a) (decimal-first b letter rest k (field a))
+
+  pub steps-add : (f : ℕ → List ℕ) (n : ℕ) → ((k : ℕ) → Adds (b ∷ rest) v (f k) 0) → Adds (b ∷ rest) v (each f n) 0
+  steps-add f n h = each-none f n (λ k l. h k)
+
+  db-adds : (c : Contents) (j q x : ℕ) → Adds (b ∷ rest) v (dbItem c j q x) 0
+  unfolding dbItem dbLine begins timesIn
+  db-adds c j q x =
+      let n = countIn (signersOf c j q x .0) in
+      none-if (ltb 0 n) (other-line
+      (word-within db refl & field-within j & field-within q & field-within x & field-within n) (rw d))
+
+  pub dbs-add : (h : Head) (c : Contents) → Adds (b ∷ rest) v (dbLines h c) 0
+  unfolding dbLines dbPeer dbPeriod
+  dbs-add h c =
+      each-none (dbPeer h c) (h .n) (λ k _.
+      each-none (dbPeriod h c (k + 1)) (h .periods) (λ q _.
+      each-none (dbItem c (k + 1) q) (h .items) (λ x _. db-adds c (k + 1) q x)))
+
+-- the items of a board line: a blank before each, and one before the period
+
+one-blank : (t : Bool) (x : ℕ) → timesIn 32 (cond t (field x) []) ≡ digit t
+unfolding timesIn
+one-blank true x = field-blank x
+one-blank false x = refl
+
+within-if : (t : Bool) (x : ℕ) → timesIn 10 (cond t (field x) []) ≡ 0
+unfolding timesIn
+within-if true x = field-within x .none
+within-if false x = refl
+
+module _ (m B : ℕ) where
+  items-blank : timesIn 32 (each (boardItem B) m) ≡ howMany m (bit B)
+  unfolding boardItem howMany
+  items-blank = times-each 32 (boardItem B) m ∙ sum-ext m (λ x. timesIn 32 (boardItem B x)) (λ x. digit (bit B x)) (λ x _. one-blank (bit B x) x)
+
+  items-within : Within (each (boardItem B) m)
+  unfolding boardItem
+  items-within = record {
+    none = times-each 10 (boardItem B) m ∙ sum-zero m (λ x. timesIn 10 (boardItem B x)) (λ x _. within-if (bit B x) x);
+  }
+
+  board-within : (p : ℕ) → Within (board ++ field p ++ each (boardItem B) m)
+  unfolding timesIn
+  board-within p = word-within board refl & field-within p & items-within
+
+  board-fields : (p : ℕ) → fieldsOf (board ++ field p ++ each (boardItem B) m) - 1 ≡ howMany m (bit B)
+  unfolding timesIn
+  board-fields p =
+      let all = times-append 32 (board ++ field p) (each (boardItem B) m) in
+      let word = times-append 32 board (field p) in
+      omega (arith, all, word, field-blank p, items-blank)
+
+-- receipt lines: one for each receipt, and none among the boards
+module _ (h : Head) (c : Contents) where
+  receipt-adds : (p x : ℕ) → Adds receipt (λ line. 1) (receiptItem c p x) (digit (c .has (Receipted p x)))
+  unfolding receiptItem receiptLine begins timesIn
+  receipt-adds p x = one-if (c .has (Receipted p x)) (adds-line (word-within receipt refl & field-within p & field-within x) refl)
+
+  receipts-add : Adds receipt (λ line. 1) (receiptLines h c) (totalsOn h c .receipts)
+  unfolding receiptLines receiptPeriod totalsIn receiptCount howMany
+  receipts-add =
+      adds-each (receiptPeriod h c) _ (h .periods) (λ p _. adds-each (receiptItem c p) _ (h .items) (λ x _. receipt-adds p x))
+
+  no-receipt : (x : Entry) → Adds receipt (λ line. 1) (entryLine h x) 0
+  unfolding entryLine boardLine begins
+  no-receipt (Hash k p B) = adds-none
+  no-receipt (Backing k p B) = adds-none
+  no-receipt (Board p B) = other-line (board-within (h .items) B p) refl
+
+  no-receipts : Adds receipt (λ line. 1) (boardLines h c) 0
+  unfolding boardLines bagLine
+  no-receipts = each-none (bagLine h c) (length (c .bag)) (λ e _. no-receipt (entryAt (c .bag) e))
+
+-- item fields: those of each board, and none among the receipts
+module _ (h : Head) (c : Contents) where
+  no-board : (p x : ℕ) → Adds board (λ line. fieldsOf line - 1) (receiptItem c p x) 0
+  unfolding receiptItem receiptLine begins timesIn
+  no-board p x = none-if (c .has (Receipted p x)) (other-line (word-within receipt refl & field-within p & field-within x) refl)
+
+  no-boards : Adds board (λ line. fieldsOf line - 1) (receiptLines h c) 0
+  unfolding receiptLines receiptPeriod
+  no-boards = each-none (receiptPeriod h c) (h .periods) (λ p _. each-none (receiptItem c p) (h .items) (λ x _. no-board p x))
+
+  entry-adds : (x : Entry) → Adds board (λ line. fieldsOf line - 1) (entryLine h x) (entryItems (h .items) x)
+  unfolding entryLine entryItems boardLine begins
+  entry-adds (Hash k p B) = adds-none
+  entry-adds (Backing k p B) = adds-none
+  entry-adds (Board p B) = adds-as (board-fields (h .items) B p) (adds-line (board-within (h .items) B p) refl)
+
+  boards-add : Adds board (λ line. fieldsOf line - 1) (boardLines h c) (totalsOn h c .items)
+  unfolding boardLines bagLine totalsIn
+  boards-add = 
+      adds-as (bag-counted (h .items) (c .bag)) (adds-each (bagLine h c) _ (length (c .bag)) (λ e _. entry-adds (entryAt (c .bag) e)))
+
+-- the foot: neither word
+module _ {b : ℕ} {rest : List ℕ} (t : eqb 116 b ≡ false) (e : eqb 101 b ≡ false) {v : List ℕ → ℕ} where
+  foot-adds : (f : Totals) → Adds (b ∷ rest) v (foot f) 0
+  unfolding foot totalsLine begins timesIn
+  foot-adds f =
+      other-line (word-within totals refl & field-within (f .posts) & field-within (f .receipts) & field-within (f .items)) (rw t)
+      ▹ other-line (word-within (101 ∷ 110 ∷ 100 ∷ []) refl) (rw e)
+
+-- after lines that begin with neither word, those of a state have the figures of the state; and so they have with its foot
+module _ (h : Head) (c : Contents) {front : List ℕ}
+    (a : Adds receipt (λ line. 1) front 0) (b : Adds board (λ line. fieldsOf line - 1) front 0) where
+  receipts-above : Adds receipt (λ line. 1) (front ++ shownLines h c) (totalsOn h c .receipts)
+  unfolding shownLines
+  receipts-above = adds-as (omega arith) (a ▹ (dbs-add refl refl (omega arith) h c ▹ receipts-add h c ▹ no-receipts h c))
+
+  items-above : Adds board (λ line. fieldsOf line - 1) (front ++ shownLines h c) (totalsOn h c .items)
+  unfolding shownLines
+  items-above = adds-as (omega arith) (b ▹ (dbs-add refl refl (omega arith) h c ▹ no-boards h c ▹ boards-add h c))
+
+  pub above-agrees : Agrees (front ++ shownLines h c) (totalsOn h c)
+  unfolding receiptLinesIn itemFieldsIn
+  above-agrees = record { receipt-lines = adds-all receipts-above; item-fields = adds-all items-above }
+
+  pub whole-agrees : (f : Totals) → Agrees (front ++ shownLines h c ++ foot f) (totalsOn h c)
+  unfolding receiptLinesIn itemFieldsIn
+  whole-agrees f = record {
+    receipt-lines = adds-all (receipts-above ▹ foot-adds refl refl f) ∙ omega arith;
+    item-fields = adds-all (items-above ▹ foot-adds refl refl f) ∙ omega arith;
+  }

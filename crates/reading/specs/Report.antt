@@ -1,0 +1,24 @@
+-- What is counted on the lines of a report, or of a part of it.
+use Prim.Native.Nat.{ℕ, _-_}
+use mathlib.Core.List.{List}
+use mathlib.Core.Path.{_≡_}
+use Rattle.figures.specs.declared.Totals.{Totals}
+use Rattle.report.specs.Words.{receipt, board}
+use Rattle.reading.specs.Read.{linesOf, timesIn, tally}
+
+-- the lines that begin with `receipt`
+unfoldable pub receiptLinesIn : List ℕ → ℕ
+receiptLinesIn text = tally receipt (λ line. 1) (linesOf text)
+
+-- the fields of a line after its word: a blank stands before each
+abbrev pub fieldsOf : List ℕ → ℕ
+fieldsOf line = timesIn 32 line
+
+-- the item fields of the lines that begin with `board`: all but the first, which is the period
+unfoldable pub itemFieldsIn : List ℕ → ℕ
+itemFieldsIn text = tally board (λ line. fieldsOf line - 1) (linesOf text)
+
+-- the two last figures are those of the text's lines
+pub record Agrees (text : List ℕ) (f : Totals) : Type 0 where
+  pub receipt-lines : receiptLinesIn text ≡ f .receipts
+  pub item-fields : itemFieldsIn text ≡ f .items
