@@ -1,14 +1,14 @@
 -- What the code counts is what the definitions count: the items below m of a set, of the posts, of the receipts and of the bag.
-use Prim.Native.Nat.{ℕ, zero, suc, _+_, _*_, _/_, _%_, _^_, _≤_, _<_}
-use native.Mathlib.Nat.{zero-add, mod-lt, div-add-mod'}
+use Prim.Native.Nat.{ℕ, _+_, _*_, _/_, _%_, _^_, _≤_, _<_}
+use native.Mathlib.Nat.{mod-lt, div-add-mod'}
 use native.Mathlib.Omega.{arith}
 use mathlib.Core.List.{List, [], _∷_}
-use mathlib.Core.Path.{_≡_, refl, sym, ap, ap₂, _∙_}
+use mathlib.Core.Path.{_≡_, refl, sym, ap, _∙_}
 use lib.Count as machine
 use lib.ListN.{length}
 use lib.Pow.{pow-pos}
 use Rattle.base.specs.Bits.{bit, pack}
-use Rattle.base.proofs.Bits.{pack-ext, pack-bit, bit-low, bit-pack}
+use Rattle.base.proofs.Bits.{bit-none, pack-ext, pack-bit, bit-low, bit-pack}
 use Rattle.base.proofs.Masks.{shifted}
 use Rattle.header.specs.declared.Head.{Head}
 use Rattle.rules.specs.declared.Entry.{Entry}
@@ -22,8 +22,8 @@ use Rattle.sets.specs.Receipts.{receiptedOf}
 use Rattle.figures.specs.Sums.{sum, howMany}
 use Rattle.figures.specs.declared.Totals.{Totals}
 use Rattle.figures.specs.Totals.{Outside, receiptCount, itemsOn, totalsIn}
-use Rattle.figures.specs.Entries.{entryItems}
-use Rattle.figures.proofs.Sums.{how-many-ext, how-many-most, ones-counted, sum-first}
+use Rattle.figures.specs.Entries.{publishedBy, entryItems}
+use Rattle.figures.proofs.Sums.{how-many-ext, how-many-most, none-in, ones-counted, sum-first}
 
 -- the three figures, each in its place
 pub in-place : (h : Head) (o : Outside) (a b v : ℕ) → a ≡ howMany (h .items) (o .posts)
@@ -73,30 +73,36 @@ module _ (c : Contents) (m : ℕ) (few : m ≤ items) where
       (λ k l. ap (λ (y : ℕ). bit y k) e ∙ bit-pack items (λ x. c .has (Receipted p x)) k (omega arith))
 
 -- an entry that the match found
-module _ (m : ℕ) (x : Entry) (k p B : ℕ) where
-  pub hash-adds : x ≡ Hash k p B → 0 ≡ entryItems m x
-  unfolding entryItems
-  hash-adds e = rw e
+module _ (x : Entry) (k p B : ℕ) where
+  pub hash-none : x ≡ Hash k p B → 0 ≡ publishedBy x
+  unfolding publishedBy
+  hash-none e = rw e
 
-  pub backing-adds : x ≡ Backing k p B → 0 ≡ entryItems m x
-  unfolding entryItems
-  backing-adds e = rw e
+  pub backing-none : x ≡ Backing k p B → 0 ≡ publishedBy x
+  unfolding publishedBy
+  backing-none e = rw e
 
-pub board-adds : (m : ℕ) (x : Entry) (p B v : ℕ) → x ≡ Board p B → v ≡ howMany m (bit B) → v ≡ entryItems m x
-unfolding entryItems
-board-adds m x p B v e q = rw e q
+  pub board-all : x ≡ Board p B → B ≡ publishedBy x
+  unfolding publishedBy
+  board-all e = rw e
+
+pub entry-counted : (m : ℕ) {x y : Entry} {set v : ℕ} → x ≡ y → set ≡ publishedBy x → v ≡ howMany m (bit set) → v ≡ entryItems m y
+entry-counted m {x} {y} {set} {v} e q r = r ∙ ap (λ (b : ℕ). howMany m (bit b)) q ∙ ap (entryItems m) e
 
 -- entry after entry, or board after board
 module _ (m : ℕ) where
+  pub nothing-published : howMany m (bit 0) ≡ 0
+  nothing-published = none-in m (bit 0) bit-none
+
   first-apart : (a : Entry) (bag : List Entry) {v : ℕ} → sum (length bag) (λ e. entryItems m (entryAt bag e)) ≡ v
       → sum (length (a ∷ bag)) (λ e. entryItems m (entryAt (a ∷ bag) e)) ≡ entryItems m a + v
   first-apart a bag {v} e = sum-first (length bag) (λ i. entryItems m (entryAt (a ∷ bag) i)) ∙ ap (λ (w : ℕ). entryItems m a + w) e
 
   pub bag-counted : (bag : List Entry) → sum (length bag) (λ e. entryItems m (entryAt bag e)) ≡ itemsOn m (boardsIn bag)
-  unfolding boardsIn itemsOn entryItems sum
+  unfolding boardsIn itemsOn publishedBy sum
   bag-counted [] = refl
-  bag-counted (Hash k p B ∷ bag) = first-apart (Hash k p B) bag (bag-counted bag) ∙ zero-add _
-  bag-counted (Backing k p B ∷ bag) = first-apart (Backing k p B) bag (bag-counted bag) ∙ zero-add _
+  bag-counted (Hash k p B ∷ bag) = first-apart (Hash k p B) bag (bag-counted bag) ∙ omega (arith, nothing-published)
+  bag-counted (Backing k p B ∷ bag) = first-apart (Backing k p B) bag (bag-counted bag) ∙ omega (arith, nothing-published)
   bag-counted (Board p B ∷ bag) = first-apart (Board p B) bag (bag-counted bag)
 
   -- when all entries are passed

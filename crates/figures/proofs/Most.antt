@@ -1,19 +1,17 @@
 -- How large the figures are at most.
-use Prim.Native.Nat.{ℕ, zero, suc, _+_, _*_, _≤_, _<_}
+use Prim.Native.Nat.{ℕ, _*_, _≤_}
 use native.Mathlib.Omega.{arith}
 use mathlib.Core.List.{List}
-use mathlib.Core.Path.{sym}
 use lib.ListN.{length}
 use Rattle.base.specs.Bits.{bit}
 use Rattle.header.specs.declared.Head.{Head}
 use Rattle.rules.specs.declared.Entry.{Entry}
-use Rattle.rules.specs.declared.Entry.the-variants.{Hash, Backing, Board}
 use Rattle.rules.specs.Bag.{entryAt, boardsIn}
 use Rattle.rules.specs.State.{State}
 use Rattle.figures.specs.declared.Totals.{Totals}
-use Rattle.figures.specs.Sums.{sum, howMany}
+use Rattle.figures.specs.Sums.{howMany}
 use Rattle.figures.specs.Totals.{receiptCount, itemsOn, totalsIn, outsideOf}
-use Rattle.figures.specs.Entries.{entryItems}
+use Rattle.figures.specs.Entries.{publishedBy, entryItems}
 use Rattle.figures.proofs.Sums.{sum-most, how-many-most}
 use Rattle.figures.proofs.Counted.{bag-counted}
 
@@ -23,18 +21,13 @@ pub record Small (f : Totals) : Type 0 where
   pub receipts : f .receipts ≤ 8 * 64
   pub items : f .items ≤ 256 * 64
 
-entry-most : (m : ℕ) (x : Entry) → m ≤ 64 → entryItems m x ≤ 64
-unfolding entryItems
-entry-most m (Hash k p B) few = omega arith
-entry-most m (Backing k p B) few = omega arith
-entry-most m (Board p B) few = omega (arith, how-many-most m (bit B))
-
 items-most : (m : ℕ) (bag : List Entry) → m ≤ 64 → length bag ≤ 256 → itemsOn m (boardsIn bag) ≤ 256 * 64
 items-most m bag few short =
     omega (
       arith,
       bag-counted m bag,
-      sum-most (λ e. entryItems m (entryAt bag e)) 64 (length bag) 256 short (λ e l. entry-most m (entryAt bag e) few),
+      sum-most (λ e. entryItems m (entryAt bag e)) 64 (length bag) 256 short
+          (λ e l. omega (arith, few, how-many-most m (bit (publishedBy (entryAt bag e))))),
     )
 
 pub totals-most : (h : Head) (s : State) → h .periods ≤ 8 → h .items ≤ 64 → length (s .bag) ≤ 256 → Small (totalsIn h (outsideOf s))

@@ -1,12 +1,12 @@
 -- Laws of sums: sums that agree, a loop that adds one number after the other, and the bits of a number counted by the machine.
-use Prim.Native.Nat.{ℕ, zero, suc, _+_, _-_, _*_, _%_, _^_, _≤_, _<_}
+use Prim.Native.Nat.{ℕ, zero, suc, _+_, _-_, _*_, _≤_, _<_}
 use native.Mathlib.Nat.{le-antisymm}
 use native.Mathlib.Numerals.{add-one}
 use native.Mathlib.Omega.{arith}
 use mathlib.Core.Bool.{Bool, true, false, cond}
-use mathlib.Core.Path.{_≡_, refl, sym, ap, ap₂, _∙_}
+use mathlib.Core.Path.{_≡_, refl, ap, ap₂, _∙_}
 use lib.Count as machine
-use Rattle.base.specs.Bits.{bit, digit, pack}
+use Rattle.base.specs.Bits.{digit, pack}
 use Rattle.base.specs.Weight.{weight, ones}
 use Rattle.base.proofs.Bits.{digit-lt, pack-ext}
 use Rattle.base.proofs.Count.{ones-pack}
@@ -47,6 +47,10 @@ sum-most f c (suc n) (suc m) l h = omega (arith, sum-most f c n m (omega arith) 
 pub how-many-ext : (n : ℕ) (S R : ℕ → Bool) → ((k : ℕ) → k < n → S k ≡ R k) → howMany n S ≡ howMany n R
 unfolding howMany
 how-many-ext n S R e = sum-ext n (λ k. digit (S k)) (λ k. digit (R k)) (λ k l. ap digit (e k l))
+
+pub none-in : (n : ℕ) (S : ℕ → Bool) → ((k : ℕ) → S k ≡ false) → howMany n S ≡ 0
+unfolding howMany
+none-in n S e = sum-zero n (λ k. digit (S k)) (λ k _. ap digit (e k))
 
 digits-most : (n : ℕ) (S : ℕ → Bool) → sum n (λ k. digit (S k)) ≤ n
 unfolding sum

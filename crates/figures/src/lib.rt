@@ -1,13 +1,13 @@
 // The totals: the items posted, the receipts, and the items of all boards, each counted from what a state holds.
 // No counter is kept anywhere. It uses sets and bag to read, and view for what the bytes say.
 ghost use mathlib.Core.Path.{_≡_};
-ghost use Prim.Native.Nat.{_*_, _≤_};
+ghost use Prim.Native.Nat.{_≤_};
 ghost use Rattle.base.specs.Bits.{bit, pack};
 ghost use Rattle.state.specs.Contents.{Canon};
 ghost use Rattle.view.specs.View.{stateOn};
 ghost use Rattle.figures.specs.Sums.{howMany};
 ghost use Rattle.figures.specs.Totals.{receiptCount, itemsOn, outsideOf, totalsIn};
-ghost use Rattle.figures.specs.Entries.{entryItems};
+ghost use Rattle.figures.specs.Entries.{publishedBy};
 use bag::bag_len;
 use bag::entry_at;
 use header::Head;
@@ -54,24 +54,24 @@ fn receipts(s: &[u8], h: Head) -> u32
     requires { ⌜ Canon (now s) × (h .items ≤ 64) ⌝ }
     ensures { λ r. ⌜ r ≡ receiptCount (h .periods) (h .items) (outsideOf (stateOn (now (s .entry))) .receipts) ⌝ }
 {
+    let periods = h.periods;
     let mut count: u32 = 0;
     let mut p: u8 = 0;
-    while p < h.periods {
+    while p < periods {
         count += count_items(receipted_in(s, p), h.items);
         p += 1;
     }
     count
 }
 
-// How many items an entry adds: those of a board, and none of a hash or a backing.
-fn entry_items(x: Entry, m: u8) -> u32
-    requires { ⌜ m ≤ 64 ⌝ }
-    ensures { λ r. ⌜ (r ≡ entryItems m x) × (r ≤ 64) ⌝ }
+// The items that an entry publishes, as a set: those of a board, and none of a hash or a backing.
+fn published_by(x: Entry) -> u64
+    ensures { λ r. ⌜ r ≡ publishedBy x ⌝ }
 {
     match x {
         Entry::Hash(_, _, _) => 0,
         Entry::Backing(_, _, _) => 0,
-        Entry::Board(_, board) => count_items(board, m),
+        Entry::Board(_, board) => board,
     }
 }
 
@@ -84,7 +84,7 @@ fn items(s: &[u8], h: Head) -> u32
     let mut count: u32 = 0;
     let mut e = 0;
     while e < n {
-        count += entry_items(entry_at(s, e), h.items);
+        count += count_items(published_by(entry_at(s, e)), h.items);
         e += 1;
     }
     count

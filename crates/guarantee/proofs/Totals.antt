@@ -1,5 +1,5 @@
 -- The totals are what the accepted steps made: of every engine that follows the rules, of the bytes, and of what a report shows.
-use Prim.Native.Nat.{ℕ, _+_, _-_, _≤_}
+use Prim.Native.Nat.{ℕ, _+_, _≤_}
 use native.Mathlib.Omega.{arith}
 use mathlib.Core.Bool.{false}
 use mathlib.Core.List.{List, _∷_, _++_, append-assoc}
@@ -18,15 +18,14 @@ use Rattle.rules.proofs.Outside.{Made, outside-made}
 use Rattle.rules.proofs.Follows.{as-ruled}
 use Rattle.rules.proofs.Valid.{always-valid}
 use Rattle.state.specs.Contents.{Contents, contents}
-use Rattle.view.specs.View.{stateOf}
 use Rattle.engine.specs.Engine.{rulesTable}
 use Rattle.figures.specs.declared.Totals.{Totals}
-use Rattle.figures.specs.Totals.{Outside, totalsIn, outsideOf, madeBy}
+use Rattle.figures.specs.Totals.{totalsIn, outsideOf, madeBy}
 use Rattle.text.specs.Wrote.{each}
 use Rattle.report.specs.Words.{receipt, board}
 use Rattle.report.specs.Lines.{headLine}
 use Rattle.report.specs.State.{shownLines, foot, totalsOn, stateLines}
-use Rattle.reading.specs.Report.{fieldsOf, Agrees}
+use Rattle.reading.specs.Report.{itemFieldsOf, Agrees}
 use Rattle.reading.proofs.Read.{Adds, _▹_}
 use Rattle.reading.proofs.Lines.{head-adds, step-adds, each-none, above-agrees, whole-agrees}
 use Rattle.rehearsal.specs.Input.{tableIn, inputRefusal, stepCount}
@@ -34,7 +33,7 @@ use Rattle.rehearsal.specs.Rehearsal.{stepAt, lastState, reportOf}
 use Rattle.rehearsal.proofs.Taking.{taken}
 use Rattle.guarantee.specs.Demand3.{afterCalls}
 use Rattle.guarantee.specs.Rehearsed.{callsIn}
-use Rattle.guarantee.specs.Totals.{totalsMade, TotalsTrue, totalsOfInput, TotalsShown}
+use Rattle.guarantee.specs.Totals.{TotalsTrue, totalsOfInput, TotalsShown}
 use Rattle.guarantee.proofs.Demand3.{bytes-follow}
 use Rattle.guarantee.proofs.Rehearsals.{shown}
 
@@ -79,7 +78,9 @@ module _ (input : List ℕ) (fit : inputRefusal input ≡ 0) where
 
   -- the figures of what is shown at the end are those of what the input's calls made
   figures : totalsOn (headOf table) held ≡ totalsOfInput input
-  figures = ap (λ (s : State). totalsIn (headOf table) (outsideOf s)) (shown input) ∙ totals-true table (taken input fit .table) (callsIn input) .counted
+  figures =
+      ap (λ (s : State). totalsIn (headOf table) (outsideOf s)) (shown input)
+      ∙ totals-true table (taken input fit .table) (callsIn input) .counted
 
   abbrev front : List ℕ
   front = headLine (peersOf table) (thresholdOf table) (honestCount (headOf table)) ++ each (stepAt input) (stepCount input)
@@ -92,7 +93,7 @@ module _ (input : List ℕ) (fit : inputRefusal input ≡ 0) where
   no-receipts : Adds receipt (λ line. 1) front 0
   no-receipts = front-adds refl refl (omega arith)
 
-  no-boards : Adds board (λ line. fieldsOf line - 1) front 0
+  no-boards : Adds board itemFieldsOf front 0
   no-boards = front-adds refl refl (omega arith)
 
   abbrev above : List ℕ

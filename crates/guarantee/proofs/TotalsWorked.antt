@@ -1,7 +1,7 @@
 -- The totals of worked runs, computed by the rules, which the engine on bytes follows.
 use Prim.Native.Nat.{ℕ}
-use mathlib.Core.List.{List, [], _∷_, _++_}
-use mathlib.Core.Path.{_≡_, refl, sym, ap, ap₂, _∙_}
+use mathlib.Core.List.{List, [], _∷_}
+use mathlib.Core.Path.{_≡_, refl, ap, ap₂, _∙_}
 use Rattle.base.specs.Below.{any, every}
 use Rattle.base.specs.Bits.{bit, member, pack}
 use Rattle.base.specs.Bytes.{numberAt, part, sameBytes}
@@ -24,7 +24,7 @@ use Rattle.rules.specs.Deed.{deed, deedOf}
 use Rattle.rules.specs.Run.{World, backingNamed, seenWith, runFrom, after, answersFrom, byRules, run}
 use Rattle.rules.specs.Outside.{postsWith, receiptsWith, boardsWith, postsMade, receiptsMade, boardsMade}
 use Rattle.rules.specs.State.{fresh}
-use Rattle.rules.proofs.Follows.{as-ruled}
+use Rattle.rules.proofs.Follows.{as-ruled, answered-as-ruled}
 use Rattle.engine.specs.Engine.{rulesTable}
 use Rattle.figures.specs.Sums.{sum, howMany}
 use Rattle.figures.specs.Totals.{receiptCount, itemsOn, totalsIn}
@@ -36,7 +36,7 @@ use Rattle.edges.specs.Tables as tables
 use Rattle.edges.specs.Cases.{calls, due, caseR}
 use Rattle.guarantee.specs.Demand3.{afterCalls}
 use Rattle.guarantee.specs.Rehearsed.{callsIn}
-use Rattle.guarantee.specs.Totals.{totalsMade, totalsOfInput}
+use Rattle.guarantee.specs.Totals.{fedBy, totalsMade, totalsOfInput}
 use Rattle.guarantee.specs.TotalsWorked.{figures, noneHonest, anything, inputR, TotalsWorked}
 use Rattle.guarantee.proofs.Demand3.{bytes-follow}
 
@@ -71,13 +71,13 @@ input = record { case-r-taken = refl; none-honest-taken = refl; taken = refl; ta
 on-bytes : (table : List ℕ) → refusal table ≡ 0 → (list : List (List ℕ)) → afterCalls table list ≡ run (rulesTable table) list
 on-bytes table fit list = ap (λ f. f list) (as-ruled (bytes-follow table fit))
 
-case-r-made : totalsMade tables.caseR (afterCalls tables.caseR (calls caseR) .seen) ≡ figures 1 1 1
+case-r-made : totalsMade tables.caseR (fedBy tables.caseR (calls caseR)) ≡ figures 1 1 1
 case-r-made =
     ap (λ (w : World). totalsMade tables.caseR (w .seen)) (on-bytes tables.caseR (input .case-r-taken) (calls caseR)) ∙ computed .case-r
 
 of-input : totalsOfInput inputR ≡ figures 1 1 1
 of-input =
-    ap₂ (λ (t : List ℕ) (list : List (List ℕ)). totalsMade t (afterCalls t list .seen)) (input .table) (input .steps) ∙ case-r-made
+    ap₂ (λ (t : List ℕ) (list : List (List ℕ)). totalsMade t (fedBy t list)) (input .table) (input .steps) ∙ case-r-made
 
 written : foot (figures 1 1 1) ≡ 116 ∷ 111 ∷ 116 ∷ 97 ∷ 108 ∷ 115 ∷ 32 ∷ 49 ∷ 32 ∷ 49 ∷ 32 ∷ 49 ∷ 10 ∷ 101 ∷ 110 ∷ 100 ∷ 10 ∷ []
 unfolding foot totalsLine field decimal spelled
@@ -89,6 +89,7 @@ totals-worked = record {
   none-honest = ap (λ (w : World). totalsMade noneHonest (w .seen)) (on-bytes noneHonest (input .none-honest-taken) (calls anything))
       ∙ computed .none-honest;
   none-honest-taken = input .none-honest-taken;
+  none-honest-answers = answered-as-ruled (bytes-follow noneHonest (input .none-honest-taken)) (calls anything) ∙ computed .answers;
   input-taken = input .taken;
   input-foot = ap foot of-input ∙ written;
 }

@@ -15,23 +15,29 @@ use Rattle.rehearsal.specs.Rehearsal.{reportOf}
 use Rattle.guarantee.specs.Demand3.{afterCalls}
 use Rattle.guarantee.specs.Rehearsed.{callsIn}
 
--- the totals of what steps with their answers have made, counted from these steps, by a table's periods and items
+-- the steps with their answers that a list of calls comes to, the last first: demand 3's ideal board is fed with them
+abbrev pub fedBy : List ℕ → List (List ℕ) → List Fed
+fedBy table calls = afterCalls table calls .seen
+
+-- the totals of what such steps have made, counted from the steps alone, by a table's periods and items
 abbrev pub totalsMade : List ℕ → List Fed → Totals
 totalsMade table seen = totalsIn (headOf table) (madeBy seen)
 
 -- after a list of calls; "so far" is every such list
 pub record TotalsTrue (table : List ℕ) (calls : List (List ℕ)) : Type 0 where
   -- what is held has the totals of what the accepted calls made
-  pub counted : totalsIn (headOf table) (outsideOf (afterCalls table calls .engine)) ≡ totalsMade table (afterCalls table calls .seen)
+  pub counted : totalsIn (headOf table) (outsideOf (afterCalls table calls .engine))
+      ≡ totalsMade table (fedBy table calls)
   -- and of what they made nothing is left out: posts, receipts and boards are of the table's periods and items
-  pub posts : (x : ℕ) → postsMade (afterCalls table calls .seen) x ≡ true → x < itemsOf table
-  pub receipts : (p x : ℕ) → receiptsMade (afterCalls table calls .seen) p x ≡ true → (p < periodsOf table) × (x < itemsOf table)
-  pub boards : (p B : ℕ) → isThere (boardsMade (afterCalls table calls .seen)) p B ≡ true
+  pub posts : (x : ℕ) → postsMade (fedBy table calls) x ≡ true → x < itemsOf table
+  pub receipts : (p x : ℕ) → receiptsMade (fedBy table calls) p x ≡ true
+      → (p < periodsOf table) × (x < itemsOf table)
+  pub boards : (p B : ℕ) → isThere (boardsMade (fedBy table calls)) p B ≡ true
       → (p < periodsOf table) × (B < 2 ^ itemsOf table)
 
--- the totals of what an input's own calls made: of the steps that demand 3's ideal board is fed with
+-- the totals of what an input's own calls made
 abbrev pub totalsOfInput : List ℕ → Totals
-totalsOfInput input = totalsMade (tableIn input) (afterCalls (tableIn input) (callsIn input) .seen)
+totalsOfInput input = totalsMade (tableIn input) (fedBy (tableIn input) (callsIn input))
 
 -- the report of an input
 pub record TotalsShown (input : List ℕ) : Type 0 where

@@ -5,12 +5,13 @@ use mathlib.Core.Path.{_≡_}
 use Rattle.figures.specs.declared.Totals.{Totals}
 use Rattle.report.specs.State.{foot}
 use Rattle.ballot.specs.Table.{refusal}
+use Rattle.rules.specs.Run.{answersFrom}
+use Rattle.engine.specs.Engine.{freshState}
 use Rattle.edges.specs.Tables as tables
-use Rattle.edges.specs.Cases.{Worked, bytes, calls, caseR}
-use Rattle.rehearsal.specs.Input.{tableIn, inputRefusal}
-use Rattle.guarantee.specs.Demand3.{afterCalls}
-use Rattle.guarantee.specs.Rehearsed.{callsIn}
-use Rattle.guarantee.specs.Totals.{totalsMade, totalsOfInput}
+use Rattle.edges.specs.Cases.{Worked, bytes, calls, due, caseR}
+use Rattle.rehearsal.specs.Input.{inputRefusal}
+use Rattle.guarantee.specs.Demand3.{byBytes}
+use Rattle.guarantee.specs.Totals.{fedBy, totalsMade, totalsOfInput}
 
 abbrev pub figures : ℕ → ℕ → ℕ → Totals
 figures a b c = record { posts = a; receipts = b; items = c }
@@ -47,9 +48,10 @@ abbrev pub inputR : List ℕ
 inputR = tables.caseR ++ joined (calls caseR)
 
 pub record TotalsWorked : Type 0 where
-  pub case-r : totalsMade tables.caseR (afterCalls tables.caseR (calls caseR) .seen) ≡ figures 1 1 1
-  pub none-honest : totalsMade noneHonest (afterCalls noneHonest (calls anything) .seen) ≡ figures 2 1 3
+  pub case-r : totalsMade tables.caseR (fedBy tables.caseR (calls caseR)) ≡ figures 1 1 1
+  pub none-honest : totalsMade noneHonest (fedBy noneHonest (calls anything)) ≡ figures 2 1 3
   pub none-honest-taken : refusal noneHonest ≡ 0
+  pub none-honest-answers : answersFrom (byBytes noneHonest) freshState (calls anything) ≡ due anything
   -- document 02's line, and `end`: case R is an input that is not refused
   pub input-taken : inputRefusal inputR ≡ 0
   pub input-foot : foot (totalsOfInput inputR)

@@ -3,7 +3,7 @@ use Prim.Native.Nat.{ℕ, zero, suc, _+_, _-_, _≤_, _<_}
 use native.Mathlib.Omega.{arith}
 use mathlib.Core.Bool.{Bool, true, false, cond}
 use mathlib.Core.List.{List, [], _∷_, _++_}
-use mathlib.Core.Path.{_≡_, refl, ap, subst, _∙_}
+use mathlib.Core.Path.{_≡_, refl, sym, subst, _∙_}
 use lib.Dec.{eqb, ltb}
 use lib.ListN.{length}
 use Rattle.base.specs.Bits.{bit, digit}
@@ -18,18 +18,18 @@ use Rattle.state.specs.Sets.{signersOf}
 use Rattle.figures.specs.declared.Totals.{Totals}
 use Rattle.figures.specs.Sums.{sum, howMany}
 use Rattle.figures.specs.Totals.{receiptCount, totalsIn}
-use Rattle.figures.specs.Entries.{entryItems}
+use Rattle.figures.specs.Entries.{publishedBy, entryItems}
 use Rattle.figures.proofs.Sums.{sum-ext, sum-zero}
-use Rattle.figures.proofs.Counted.{bag-counted}
+use Rattle.figures.proofs.Counted.{nothing-published, bag-counted}
 use Rattle.text.specs.Wrote.{each}
-use Rattle.text.specs.Decimal.{decimal, field}
+use Rattle.text.specs.Decimal.{field}
 use Rattle.report.specs.Words.{peers, threshold, honest, db, receipt, board, totals}
 use Rattle.report.specs.Lines.{headLine, stepLine, dbLine, receiptLine, boardItem, boardLine, totalsLine}
 use Rattle.report.specs.State.{dbItem, dbPeriod, dbPeer, dbLines, receiptItem, receiptPeriod, receiptLines}
 use Rattle.report.specs.State.{entryLine, bagLine, boardLines, totalsOn, shownLines, foot}
-use Rattle.reading.specs.Read.{linesOf, timesIn, begins, tally}
-use Rattle.reading.specs.Report.{receiptLinesIn, fieldsOf, itemFieldsIn, Agrees}
-use Rattle.reading.proofs.Read.{Adds, adds-none, _▹_, adds-line, other-line, adds-if, adds-all}
+use Rattle.reading.specs.Read.{timesIn, begins}
+use Rattle.reading.specs.Report.{receiptLinesIn, itemFieldsOf, itemFieldsIn, Agrees}
+use Rattle.reading.proofs.Read.{Adds, adds-none, _▹_, adds-line, other-line, adds-all}
 use Rattle.reading.proofs.Read.{Within, word-within, _&_, decimal-within, field-within, times-append, field-blank, decimal-first}
 
 -- how often a byte stands in each of a row of texts
@@ -66,15 +66,13 @@ module _ {b : ℕ} {rest : List ℕ} (p : eqb 112 b ≡ false) (d : eqb 100 b �
   pub head-adds : (n t h : ℕ) → Adds (b ∷ rest) v (headLine n t h) 0
   unfolding headLine begins timesIn
   head-adds n t h =
-      other-line (word-within peers refl & field-within n & word-within threshold refl & field-within t & word-within honest refl & field-within h)
+      other-line
+      (word-within peers refl & field-within n & word-within threshold refl & field-within t & word-within honest refl & field-within h)
       (rw p)
 
   pub step-adds : (k a : ℕ) → Adds (b ∷ rest) v (stepLine k a) 0
   unfolding stepLine
   step-adds k a = other-line (decimal-within k & field-within a) (decimal-first b letter rest k (field a))
-
-  pub steps-add : (f : ℕ → List ℕ) (n : ℕ) → ((k : ℕ) → Adds (b ∷ rest) v (f k) 0) → Adds (b ∷ rest) v (each f n) 0
-  steps-add f n h = each-none f n (λ k l. h k)
 
   db-adds : (c : Contents) (j q x : ℕ) → Adds (b ∷ rest) v (dbItem c j q x) 0
   unfolding dbItem dbLine begins timesIn
@@ -105,7 +103,9 @@ within-if false x = refl
 module _ (m B : ℕ) where
   items-blank : timesIn 32 (each (boardItem B) m) ≡ howMany m (bit B)
   unfolding boardItem howMany
-  items-blank = times-each 32 (boardItem B) m ∙ sum-ext m (λ x. timesIn 32 (boardItem B x)) (λ x. digit (bit B x)) (λ x _. one-blank (bit B x) x)
+  items-blank =
+      times-each 32 (boardItem B) m
+      ∙ sum-ext m (λ x. timesIn 32 (boardItem B x)) (λ x. digit (bit B x)) (λ x _. one-blank (bit B x) x)
 
   items-within : Within (each (boardItem B) m)
   unfolding boardItem
@@ -117,7 +117,7 @@ module _ (m B : ℕ) where
   unfolding timesIn
   board-within p = word-within board refl & field-within p & items-within
 
-  board-fields : (p : ℕ) → fieldsOf (board ++ field p ++ each (boardItem B) m) - 1 ≡ howMany m (bit B)
+  board-fields : (p : ℕ) → itemFieldsOf (board ++ field p ++ each (boardItem B) m) ≡ howMany m (bit B)
   unfolding timesIn
   board-fields p =
       let all = times-append 32 (board ++ field p) (each (boardItem B) m) in
@@ -147,23 +147,23 @@ module _ (h : Head) (c : Contents) where
 
 -- item fields: those of each board, and none among the receipts
 module _ (h : Head) (c : Contents) where
-  no-board : (p x : ℕ) → Adds board (λ line. fieldsOf line - 1) (receiptItem c p x) 0
+  no-board : (p x : ℕ) → Adds board itemFieldsOf (receiptItem c p x) 0
   unfolding receiptItem receiptLine begins timesIn
   no-board p x = none-if (c .has (Receipted p x)) (other-line (word-within receipt refl & field-within p & field-within x) refl)
 
-  no-boards : Adds board (λ line. fieldsOf line - 1) (receiptLines h c) 0
+  no-boards : Adds board itemFieldsOf (receiptLines h c) 0
   unfolding receiptLines receiptPeriod
   no-boards = each-none (receiptPeriod h c) (h .periods) (λ p _. each-none (receiptItem c p) (h .items) (λ x _. no-board p x))
 
-  entry-adds : (x : Entry) → Adds board (λ line. fieldsOf line - 1) (entryLine h x) (entryItems (h .items) x)
-  unfolding entryLine entryItems boardLine begins
-  entry-adds (Hash k p B) = adds-none
-  entry-adds (Backing k p B) = adds-none
+  entry-adds : (x : Entry) → Adds board itemFieldsOf (entryLine h x) (entryItems (h .items) x)
+  unfolding entryLine publishedBy boardLine begins
+  entry-adds (Hash k p B) = adds-as (sym (nothing-published (h .items))) adds-none
+  entry-adds (Backing k p B) = adds-as (sym (nothing-published (h .items))) adds-none
   entry-adds (Board p B) = adds-as (board-fields (h .items) B p) (adds-line (board-within (h .items) B p) refl)
 
-  boards-add : Adds board (λ line. fieldsOf line - 1) (boardLines h c) (totalsOn h c .items)
+  boards-add : Adds board itemFieldsOf (boardLines h c) (totalsOn h c .items)
   unfolding boardLines bagLine totalsIn
-  boards-add = 
+  boards-add =
       adds-as (bag-counted (h .items) (c .bag)) (adds-each (bagLine h c) _ (length (c .bag)) (λ e _. entry-adds (entryAt (c .bag) e)))
 
 -- the foot: neither word
@@ -176,12 +176,12 @@ module _ {b : ℕ} {rest : List ℕ} (t : eqb 116 b ≡ false) (e : eqb 101 b �
 
 -- after lines that begin with neither word, those of a state have the figures of the state; and so they have with its foot
 module _ (h : Head) (c : Contents) {front : List ℕ}
-    (a : Adds receipt (λ line. 1) front 0) (b : Adds board (λ line. fieldsOf line - 1) front 0) where
+    (a : Adds receipt (λ line. 1) front 0) (b : Adds board itemFieldsOf front 0) where
   receipts-above : Adds receipt (λ line. 1) (front ++ shownLines h c) (totalsOn h c .receipts)
   unfolding shownLines
   receipts-above = adds-as (omega arith) (a ▹ (dbs-add refl refl (omega arith) h c ▹ receipts-add h c ▹ no-receipts h c))
 
-  items-above : Adds board (λ line. fieldsOf line - 1) (front ++ shownLines h c) (totalsOn h c .items)
+  items-above : Adds board itemFieldsOf (front ++ shownLines h c) (totalsOn h c .items)
   unfolding shownLines
   items-above = adds-as (omega arith) (b ▹ (dbs-add refl refl (omega arith) h c ▹ no-boards h c ▹ boards-add h c))
 

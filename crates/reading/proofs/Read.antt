@@ -2,7 +2,7 @@
 use Prim.Native.Nat.{ℕ, zero, suc, _+_, _/_, _%_, _≤_, _<_}
 use native.Mathlib.Numerals.{add-one}
 use native.Mathlib.Omega.{arith}
-use mathlib.Core.Bool.{Bool, true, false, cond, _&&_}
+use mathlib.Core.Bool.{Bool, true, false, cond}
 use mathlib.Core.List.{List, [], _∷_, _++_, append-nil, append-assoc}
 use mathlib.Core.Path.{_≡_, refl, sym, ap, _∙_}
 use lib.Dec.{eqb, ltb}
@@ -128,11 +128,6 @@ module _ {word : List ℕ} {v : List ℕ → ℕ} where
   pub other-line : {w : List ℕ} → Within w → begins word w ≡ false → Adds word v (w ++ (10 ∷ [])) 0
   unfolding tally
   other-line {w} e b = record { over = λ rest. ap (tally word v) (line-first w rest e) ∙ rw b }
-
-  -- a text where a test holds
-  pub adds-if : (b : Bool) {t : List ℕ} {k : ℕ} → Adds word v t k → Adds word v (cond b t []) (cond b k 0)
-  adds-if true x = x
-  adds-if false x = adds-none
 
   pub adds-all : {t : List ℕ} {k : ℕ} → Adds word v t k → tally word v (linesOf t) ≡ k
   unfolding tally linesFrom

@@ -10,13 +10,13 @@ use Rattle.reading.specs.Read.{linesOf, timesIn, tally}
 unfoldable pub receiptLinesIn : List ℕ → ℕ
 receiptLinesIn text = tally receipt (λ line. 1) (linesOf text)
 
--- the fields of a line after its word: a blank stands before each
-abbrev pub fieldsOf : List ℕ → ℕ
-fieldsOf line = timesIn 32 line
+-- the item fields of a board line: a blank stands before each, and one before its first field, the period
+abbrev pub itemFieldsOf : List ℕ → ℕ
+itemFieldsOf line = timesIn 32 line - 1
 
--- the item fields of the lines that begin with `board`: all but the first, which is the period
+-- those of the lines that begin with `board`
 unfoldable pub itemFieldsIn : List ℕ → ℕ
-itemFieldsIn text = tally board (λ line. fieldsOf line - 1) (linesOf text)
+itemFieldsIn text = tally board itemFieldsOf (linesOf text)
 
 -- the two last figures are those of the text's lines
 pub record Agrees (text : List ℕ) (f : Totals) : Type 0 where

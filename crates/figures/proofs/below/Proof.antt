@@ -1,5 +1,4 @@
 -- A shift by m leaves what is below 2 ^ m: by `low-bits`.
-use native.Mathlib.Omega.{arith}
 use borrow.Author.Needs.{needs}
 use Rattle.figures.proofs.Counted.{all-bits, low-bits, some-left}
 use Rattle.figures.proofs.below.Statement.{statement}

@@ -1,13 +1,13 @@
 -- The items of the entries passed are counted.
 use Prim.Native.Nat.{_*_, _≤_, _-_}
 use native.Mathlib.Omega.{arith}
-use mathlib.Core.Path.{_≡_, ap, _∙_}
+use mathlib.Core.Path.{_≡_}
 use borrow.Author.Needs.{needs}
 use Rattle.rules.specs.Bag.{entryAt}
 use Rattle.view.specs.View.{stateOn}
 use Rattle.figures.specs.Sums.{sum}
 use Rattle.figures.specs.Entries.{entryItems}
-use Rattle.figures.proofs.Counted.{bag-all}
+use Rattle.figures.proofs.Counted.{entry-counted, bag-all}
 use Rattle.figures.proofs.Sums.{sum-none, sum-more}
 use Rattle.figures.proofs.items.Statement.{statement}
 use Rattle.figures.proofs.items.Tie as tie
@@ -27,9 +27,8 @@ add-count c = omega arith
 
 loop-again : tie.Need-loop-again Inv-loop μ-loop
 loop-again c =
-    let l = c .before .before .before .loop in
-    let h = c .before .before .before .before .before .before .args .h in
-    let one = c .entry-items .ensures .0 ∙ ap (entryItems (h .items)) (c .before .entry-at .ensures) in
+    let l = c .before .before .before .before .loop in
+    let one = entry-counted _ (c .before .before .entry-at .ensures) (c .before .published-by .ensures) (c .count-items .ensures .0) in
     (omega arith, omega arith, sum-more _ (l .e) _ _ (l .inv .2) one)
 
 returns : tie.Need-returns Inv-loop μ-loop
@@ -45,6 +44,7 @@ items-spec =
     μ-loop
     (λ c κs. search needs)
     loop-holds
+    (λ c κs. search needs)
     (λ c κs. search needs)
     (λ c κs. search needs)
     add-count

@@ -12,11 +12,11 @@ use Rattle.figures.proofs.receipts.Statement.{statement}
 use Rattle.figures.proofs.receipts.Tie as tie
 
 abbrev Inv-loop : tie.InvT-loop
-Inv-loop s h count₀ p₀ count p =
-    (p ≤ h .periods) × (count ≤ 64 * p) × (count ≡ receiptCount p (h .items) (stateOn s .receipted))
+Inv-loop s h periods count₀ p₀ count p =
+    (p ≤ periods) × (count ≤ 64 * p) × (count ≡ receiptCount p (h .items) (stateOn s .receipted))
 
 abbrev μ-loop : tie.MeasureT-loop
-μ-loop s h count₀ p₀ count p = h .periods - p
+μ-loop s h periods count₀ p₀ count p = periods - p
 
 loop-holds : tie.Need-loop-holds Inv-loop μ-loop
 unfolding receiptCount
@@ -28,14 +28,15 @@ add-count c = omega arith
 loop-again : tie.Need-loop-again Inv-loop μ-loop
 unfolding receiptCount
 loop-again c =
-    let l = c .before .before .before .before .loop in
-    let a = c .before .before .before .before .before .before in
-    let one = period-counted (contents (a .args .s .now)) (a .args .h .items) (a .pre .1) (l .p) _ _ (c .before .receipted-in .ensures) (c .count-items .ensures .0) in
+    let l = c .before .before .before .loop in
+    let a = c .before .before .before .before .before in
+    let set = c .before .receipted-in .ensures in
+    let one = period-counted (contents (a .args .s .now)) (a .args .h .items) (a .pre .1) (l .p) _ _ set (c .count-items .ensures .0) in
     (omega arith, omega arith, sum-more _ (l .p) _ _ (l .inv .2) one)
 
 returns : tie.Need-returns Inv-loop μ-loop
 unfolding receiptCount
-returns c = let l = c .before .before .loop in sum-all _ (l .p) _ _ (l .inv .0) (c .if1 .left) (l .inv .2)
+returns c = let l = c .before .loop in sum-all _ (l .p) _ _ (l .inv .0) (c .loop-test .left) (l .inv .2)
 
 pub receipts-spec : {M : Type 1} → statement M
 receipts-spec =

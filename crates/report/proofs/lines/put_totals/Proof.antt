@@ -13,7 +13,8 @@ returns c =
     let receipts = items .before .before .before .before .before in
     let posts = receipts .before .before .before .before .before in
     let word = posts .before .before .before .before .before in
-    word .put-word .ensures ▷ posts .put-field .ensures ▷ receipts .put-field2 .ensures ▷ items .put-field3 .ensures ▷ last .put-byte .ensures
+    word .put-word .ensures ▷ posts .put-field .ensures ▷ receipts .put-field2 .ensures ▷ items .put-field3 .ensures
+    ▷ last .put-byte .ensures
 
 pub put-totals-spec : {M : Type 1} → statement M
 put-totals-spec =
