@@ -28,8 +28,9 @@
 extern "C" {
 #endif
 
-/* Rises when a function, a number or a layout of this file changes. */
-#define BOARD_VERSION 1
+/* Rises when a function, a number or a layout of this file changes.
+ * 2: a report has the line `totals` before its last one. */
+#define BOARD_VERSION 2
 
 /* The answers, by their words. A number that is not here is a refusal too. */
 enum board_answer {
@@ -179,7 +180,9 @@ size_t board_report_most(void);
  * The state then is the one that the steps led to, whatever its bytes were. An
  * input that is refused (15, or 1 to 4), or a state of another length than
  * BOARD_STATE_LENGTH (14, judged after these), has the report `refused N`, one
- * line, and leaves the state as it was. */
+ * line, and leaves the state as it was. Any other report ends with the lines
+ * `totals A B C`, the different items posted, the receipts, and the items of all
+ * boards added up, and `end`. */
 size_t board_rehearse(const uint8_t *input, size_t input_length,
                       uint8_t *state, size_t state_length,
                       uint8_t *out, size_t out_length);

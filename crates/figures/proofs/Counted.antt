@@ -2,6 +2,7 @@
 use Prim.Native.Nat.{ℕ, _+_, _*_, _/_, _%_, _^_, _≤_, _<_}
 use native.Mathlib.Nat.{mod-lt, div-add-mod'}
 use native.Mathlib.Omega.{arith}
+use mathlib.Core.Bool.{Bool}
 use mathlib.Core.List.{List, [], _∷_}
 use mathlib.Core.Path.{_≡_, refl, sym, ap, _∙_}
 use lib.Count as machine
@@ -14,11 +15,6 @@ use Rattle.header.specs.declared.Head.{Head}
 use Rattle.rules.specs.declared.Entry.{Entry}
 use Rattle.rules.specs.declared.Entry.the-variants.{Hash, Backing, Board}
 use Rattle.rules.specs.Bag.{boardsIn, entryAt}
-use Rattle.state.specs.declared.Fact.the-variants.{Posted, Receipted}
-use Rattle.state.specs.Layout.{items}
-use Rattle.state.specs.Contents.{Contents}
-use Rattle.state.specs.Sets.{postedOf}
-use Rattle.sets.specs.Receipts.{receiptedOf}
 use Rattle.figures.specs.Sums.{sum, howMany}
 use Rattle.figures.specs.declared.Totals.{Totals}
 use Rattle.figures.specs.Totals.{Outside, receiptCount, itemsOn, totalsIn}
@@ -59,18 +55,10 @@ set-counted m set v few e =
     let counted = ap machine.ones e ∙ ones-counted m (bit set) in
     (counted, omega (arith, counted, few, how-many-most m (bit set)))
 
-module _ (c : Contents) (m : ℕ) (few : m ≤ items) where
-  pub posts-counted : (set v : ℕ) → set ≡ postedOf c → v ≡ howMany m (bit set) → v ≡ howMany m (λ x. c .has (Posted x))
-  unfolding postedOf
-  posts-counted set v e q =
-      q ∙ how-many-ext m (bit set) (λ x. c .has (Posted x))
-      (λ k l. ap (λ (y : ℕ). bit y k) e ∙ bit-pack items (λ x. c .has (Posted x)) k (omega arith))
-
-  pub period-counted : (p set v : ℕ) → set ≡ receiptedOf c p → v ≡ howMany m (bit set) → v ≡ howMany m (λ x. c .has (Receipted p x))
-  unfolding receiptedOf
-  period-counted p set v e q =
-      q ∙ how-many-ext m (bit set) (λ x. c .has (Receipted p x))
-      (λ k l. ap (λ (y : ℕ). bit y k) e ∙ bit-pack items (λ x. c .has (Receipted p x)) k (omega arith))
+-- a set of items, as the number of its bits
+pub packed-counted : (S : ℕ → Bool) (m : ℕ) {set v : ℕ} → m ≤ 64 → set ≡ pack 64 S → v ≡ howMany m (bit set) → v ≡ howMany m S
+packed-counted S m {set} {v} few e q =
+    q ∙ how-many-ext m (bit set) S (λ k l. ap (λ (y : ℕ). bit y k) e ∙ bit-pack 64 S k (omega arith))
 
 -- an entry that the match found
 module _ (x : Entry) (k p B : ℕ) where

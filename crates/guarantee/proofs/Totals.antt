@@ -10,7 +10,8 @@ use Rattle.ballot.specs.Table.{refusal}
 use Rattle.rules.specs.Table.{Table}
 use Rattle.rules.specs.Ideal.{Fed, isThere}
 use Rattle.rules.specs.State.{State}
-use Rattle.rules.specs.Run.{World, run}
+use Rattle.rules.specs.Run.{World, Engine, after}
+use Rattle.rules.specs.Follows.{Follows}
 use Rattle.rules.specs.Valid.{Valid}
 use Rattle.rules.specs.declared.Entry.the-variants.{Board}
 use Rattle.rules.proofs.Bag.{there-stands}
@@ -18,16 +19,14 @@ use Rattle.rules.proofs.Outside.{Made, outside-made}
 use Rattle.rules.proofs.Follows.{as-ruled}
 use Rattle.rules.proofs.Valid.{always-valid}
 use Rattle.state.specs.Contents.{Contents, contents}
-use Rattle.engine.specs.Engine.{rulesTable}
 use Rattle.figures.specs.declared.Totals.{Totals}
 use Rattle.figures.specs.Totals.{totalsIn, outsideOf, madeBy}
 use Rattle.text.specs.Wrote.{each}
-use Rattle.report.specs.Words.{receipt, board}
 use Rattle.report.specs.Lines.{headLine}
 use Rattle.report.specs.State.{shownLines, foot, totalsOn, stateLines}
-use Rattle.reading.specs.Report.{itemFieldsOf, Agrees}
+use Rattle.reading.specs.Report.{Agrees}
 use Rattle.reading.proofs.Read.{Adds, _▹_}
-use Rattle.reading.proofs.Lines.{head-adds, step-adds, each-none, above-agrees, whole-agrees}
+use Rattle.reading.proofs.Lines.{AddsReceipts, AddsItems, head-adds, step-adds, each-none, above-agrees, whole-agrees}
 use Rattle.rehearsal.specs.Input.{tableIn, inputRefusal, stepCount}
 use Rattle.rehearsal.specs.Rehearsal.{stepAt, lastState, reportOf}
 use Rattle.rehearsal.proofs.Taking.{taken}
@@ -41,33 +40,26 @@ use Rattle.guarantee.proofs.Rehearsals.{shown}
 same-outside : (s : State) (seen : List Fed) → Made s seen → outsideOf s ≡ madeBy seen
 same-outside s seen M = λ i. record { posts = M .posts i; receipts = M .receipts i; boards = M .boards i }
 
-module _ (table : List ℕ) where
-  abbrev T : Table
-  T = rulesTable table
+-- of an engine that follows the rules, after any list of calls
+made-and-valid : {T : Table} {X : Type 0} {E : Engine X} {Ready : X → Type 0} → Follows T E Ready → (calls : List (List ℕ))
+    → Made (after E calls .engine) (after E calls .seen) × Valid T (after E calls .engine)
+made-and-valid {T} F calls =
+    subst (λ (w : World). Made (w .engine) (w .seen) × Valid T (w .engine)) (sym (ap (λ f. f calls) (as-ruled F)))
+    (outside-made T calls, always-valid T calls)
 
-  -- of any run that is the rules'
-  of-run : (after : List (List ℕ) → World) → after ≡ run T → (calls : List (List ℕ))
-      → Made (after calls .engine) (after calls .seen) × Valid T (after calls .engine)
-  of-run after e calls =
-      subst (λ (w : World). Made (w .engine) (w .seen) × Valid T (w .engine)) (sym (ap (λ f. f calls) e))
-      (outside-made T calls, always-valid T calls)
-
-  module _ (fit : refusal table ≡ 0) (calls : List (List ℕ)) where
-    both : Made (afterCalls table calls .engine) (afterCalls table calls .seen) × Valid T (afterCalls table calls .engine)
-    both = of-run (afterCalls table) (as-ruled (bytes-follow table fit)) calls
-
-    pub totals-true : TotalsTrue table calls
-    totals-true =
-        let w = afterCalls table calls in
-        let M = both .0 in
-        let valid = both .1 in
-        record {
-          counted = ap (totalsIn (headOf table)) (same-outside (w .engine) (w .seen) M);
-          posts = λ x e. valid .sets .posts x (ap (λ S. S x) (M .posts) ∙ e);
-          receipts = λ p x e. valid .sets .receipts p x (ap (λ S. S p x) (M .receipts) ∙ e);
-          boards = λ p B e.
-              valid .bag .entries (Board p B) (sym (there-stands p B (w .engine .bag)) ∙ ap (λ l. isThere l p B) (M .boards) ∙ e);
-        }
+pub totals-true : (table : List ℕ) → refusal table ≡ 0 → (calls : List (List ℕ)) → TotalsTrue table calls
+totals-true table fit calls =
+    let w = afterCalls table calls in
+    let both = made-and-valid (bytes-follow table fit) calls in
+    let made = both .0 in
+    let valid = both .1 in
+    record {
+      counted = ap (totalsIn (headOf table)) (same-outside (w .engine) (w .seen) made);
+      posts = λ x e. valid .sets .posts x (ap (λ S. S x) (made .posts) ∙ e);
+      receipts = λ p x e. valid .sets .receipts p x (ap (λ S. S p x) (made .receipts) ∙ e);
+      boards = λ p B e.
+          valid .bag .entries (Board p B) (sym (there-stands p B (w .engine .bag)) ∙ ap (λ l. isThere l p B) (made .boards) ∙ e);
+    }
 
 module _ (input : List ℕ) (fit : inputRefusal input ≡ 0) where
   abbrev table : List ℕ
@@ -90,10 +82,10 @@ module _ (input : List ℕ) (fit : inputRefusal input ≡ 0) where
   front-adds p d letter =
       head-adds p d letter _ _ _ ▹ each-none (stepAt input) (stepCount input) (λ k _. step-adds p d letter (k + 1) _)
 
-  no-receipts : Adds receipt (λ line. 1) front 0
+  no-receipts : AddsReceipts front 0
   no-receipts = front-adds refl refl (omega arith)
 
-  no-boards : Adds board itemFieldsOf front 0
+  no-boards : AddsItems front 0
   no-boards = front-adds refl refl (omega arith)
 
   abbrev above : List ℕ

@@ -32,6 +32,14 @@ use Rattle.reading.specs.Report.{receiptLinesIn, itemFieldsOf, itemField
 use Rattle.reading.proofs.Read.{Adds, adds-none, _▹_, adds-line, other-line, adds-all}
 use Rattle.reading.proofs.Read.{Within, word-within, _&_, decimal-within, field-within, times-append, field-blank, decimal-first}
 
+-- to the receipt lines, and to the item fields of the board lines
+
+abbrev pub AddsReceipts : List ℕ → ℕ → Type 0
+AddsReceipts = Adds receipt (λ line. 1)
+
+abbrev pub AddsItems : List ℕ → ℕ → Type 0
+AddsItems = Adds board itemFieldsOf
+
 -- how often a byte stands in each of a row of texts
 times-each : (b : ℕ) (f : ℕ → List ℕ) (n : ℕ) → timesIn b (each f n) ≡ sum n (λ k. timesIn b (f k))
 unfolding each sum timesIn
@@ -126,42 +134,42 @@ module _ (m B : ℕ) where
 
 -- receipt lines: one for each receipt, and none among the boards
 module _ (h : Head) (c : Contents) where
-  receipt-adds : (p x : ℕ) → Adds receipt (λ line. 1) (receiptItem c p x) (digit (c .has (Receipted p x)))
+  receipt-adds : (p x : ℕ) → AddsReceipts (receiptItem c p x) (digit (c .has (Receipted p x)))
   unfolding receiptItem receiptLine begins timesIn
   receipt-adds p x = one-if (c .has (Receipted p x)) (adds-line (word-within receipt refl & field-within p & field-within x) refl)
 
-  receipts-add : Adds receipt (λ line. 1) (receiptLines h c) (totalsOn h c .receipts)
+  receipts-add : AddsReceipts (receiptLines h c) (totalsOn h c .receipts)
   unfolding receiptLines receiptPeriod totalsIn receiptCount howMany
   receipts-add =
       adds-each (receiptPeriod h c) _ (h .periods) (λ p _. adds-each (receiptItem c p) _ (h .items) (λ x _. receipt-adds p x))
 
-  no-receipt : (x : Entry) → Adds receipt (λ line. 1) (entryLine h x) 0
+  no-receipt : (x : Entry) → AddsReceipts (entryLine h x) 0
   unfolding entryLine boardLine begins
   no-receipt (Hash k p B) = adds-none
   no-receipt (Backing k p B) = adds-none
   no-receipt (Board p B) = other-line (board-within (h .items) B p) refl
 
-  no-receipts : Adds receipt (λ line. 1) (boardLines h c) 0
+  no-receipts : AddsReceipts (boardLines h c) 0
   unfolding boardLines bagLine
   no-receipts = each-none (bagLine h c) (length (c .bag)) (λ e _. no-receipt (entryAt (c .bag) e))
 
 -- item fields: those of each board, and none among the receipts
 module _ (h : Head) (c : Contents) where
-  no-board : (p x : ℕ) → Adds board itemFieldsOf (receiptItem c p x) 0
+  no-board : (p x : ℕ) → AddsItems (receiptItem c p x) 0
   unfolding receiptItem receiptLine begins timesIn
   no-board p x = none-if (c .has (Receipted p x)) (other-line (word-within receipt refl & field-within p & field-within x) refl)
 
-  no-boards : Adds board itemFieldsOf (receiptLines h c) 0
+  no-boards : AddsItems (receiptLines h c) 0
   unfolding receiptLines receiptPeriod
   no-boards = each-none (receiptPeriod h c) (h .periods) (λ p _. each-none (receiptItem c p) (h .items) (λ x _. no-board p x))
 
-  entry-adds : (x : Entry) → Adds board itemFieldsOf (entryLine h x) (entryItems (h .items) x)
+  entry-adds : (x : Entry) → AddsItems (entryLine h x) (entryItems (h .items) x)
   unfolding entryLine publishedBy boardLine begins
   entry-adds (Hash k p B) = adds-as (sym (nothing-published (h .items))) adds-none
   entry-adds (Backing k p B) = adds-as (sym (nothing-published (h .items))) adds-none
   entry-adds (Board p B) = adds-as (board-fields (h .items) B p) (adds-line (board-within (h .items) B p) refl)
 
-  boards-add : Adds board itemFieldsOf (boardLines h c) (totalsOn h c .items)
+  boards-add : AddsItems (boardLines h c) (totalsOn h c .items)
   unfolding boardLines bagLine totalsIn
   boards-add =
       adds-as (bag-counted (h .items) (c .bag)) (adds-each (bagLine h c) _ (length (c .bag)) (λ e _. entry-adds (entryAt (c .bag) e)))
@@ -176,12 +184,12 @@ module _ {b : ℕ} {rest : List ℕ} (t : eqb 116 b ≡ false) (e : eqb 101 b �
 
 -- after lines that begin with neither word, those of a state have the figures of the state; and so they have with its foot
 module _ (h : Head) (c : Contents) {front : List ℕ}
-    (a : Adds receipt (λ line. 1) front 0) (b : Adds board itemFieldsOf front 0) where
-  receipts-above : Adds receipt (λ line. 1) (front ++ shownLines h c) (totalsOn h c .receipts)
+    (a : AddsReceipts front 0) (b : AddsItems front 0) where
+  receipts-above : AddsReceipts (front ++ shownLines h c) (totalsOn h c .receipts)
   unfolding shownLines
   receipts-above = adds-as (omega arith) (a ▹ (dbs-add refl refl (omega arith) h c ▹ receipts-add h c ▹ no-receipts h c))
 
-  items-above : Adds board itemFieldsOf (front ++ shownLines h c) (totalsOn h c .items)
+  items-above : AddsItems (front ++ shownLines h c) (totalsOn h c .items)
   unfolding shownLines
   items-above = adds-as (omega arith) (b ▹ (dbs-add refl refl (omega arith) h c ▹ no-boards h c ▹ boards-add h c))
 

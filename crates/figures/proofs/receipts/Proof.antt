@@ -3,10 +3,10 @@ use Prim.Native.Nat.{_*_, _≤_, _-_}
 use native.Mathlib.Omega.{arith}
 use mathlib.Core.Path.{_≡_}
 use borrow.Author.Needs.{needs}
-use Rattle.state.specs.Contents.{contents}
+use Rattle.sets.specs.Receipts.{receiptedOf}
 use Rattle.view.specs.View.{stateOn}
 use Rattle.figures.specs.Totals.{receiptCount}
-use Rattle.figures.proofs.Counted.{period-counted}
+use Rattle.figures.proofs.Counted.{packed-counted}
 use Rattle.figures.proofs.Sums.{sum-none, sum-more, sum-all}
 use Rattle.figures.proofs.receipts.Statement.{statement}
 use Rattle.figures.proofs.receipts.Tie as tie
@@ -26,12 +26,11 @@ add-count : tie.Need-add-count Inv-loop μ-loop
 add-count c = omega arith
 
 loop-again : tie.Need-loop-again Inv-loop μ-loop
-unfolding receiptCount
+unfolding receiptCount receiptedOf
 loop-again c =
     let l = c .before .before .before .loop in
-    let a = c .before .before .before .before .before in
-    let set = c .before .receipted-in .ensures in
-    let one = period-counted (contents (a .args .s .now)) (a .args .h .items) (a .pre .1) (l .p) _ _ set (c .count-items .ensures .0) in
+    let few = c .before .before .before .before .before .pre .1 in
+    let one = packed-counted _ _ few (c .before .receipted-in .ensures) (c .count-items .ensures .0) in
     (omega arith, omega arith, sum-more _ (l .p) _ _ (l .inv .2) one)
 
 returns : tie.Need-returns Inv-loop μ-loop
