@@ -24,8 +24,10 @@ use Rattle.figures.specs.Totals.{totalsIn, outsideOf, madeBy}
 use Rattle.text.specs.Wrote.{each}
 use Rattle.report.specs.Lines.{headLine}
 use Rattle.report.specs.State.{shownLines, foot, totalsOn, stateLines}
-use Rattle.reading.specs.Report.{Agrees}
-use Rattle.reading.proofs.Read.{Adds, _▹_}
+use Rattle.reading.specs.Read.{linesOf}
+use Rattle.reading.specs.Report.{footLines, Agrees}
+use Rattle.reading.proofs.Read.{Adds, _▹_, Closed, _then_, closed-each}
+use Rattle.reading.proofs.Closed.{head-closed, step-closed, shown-closed, foot-lines}
 use Rattle.reading.proofs.Lines.{AddsReceipts, AddsItems, head-adds, step-adds, each-none, above-agrees, whole-agrees}
 use Rattle.rehearsal.specs.Input.{tableIn, inputRefusal, stepCount}
 use Rattle.rehearsal.specs.Rehearsal.{stepAt, lastState, reportOf}
@@ -97,10 +99,22 @@ module _ (input : List ℕ) (fit : inputRefusal input ≡ 0) where
       sym (append-assoc front (shownLines (headOf table) held) (foot (totalsOn (headOf table) held)))
       ∙ ap (λ (f : Totals). above ++ foot f) figures
 
+  above-closed : Closed above
+  unfolding stepAt
+  above-closed =
+      head-closed _ _ _ then closed-each (stepAt input) (stepCount input) (λ k. step-closed (k + 1) _)
+      then shown-closed (headOf table) held
+
+  last-lines : linesOf (reportOf input) ≡ linesOf above ++ footLines (totalsOfInput input)
+  last-lines =
+      ap linesOf ends ∙ above-closed .apart (foot (totalsOfInput input))
+      ∙ ap (λ (l : List (List ℕ)). linesOf above ++ l) (foot-lines (totalsOfInput input))
+
   pub totals-shown : TotalsShown input
   totals-shown = record {
     above = above;
     ends = ends;
+    last-lines = last-lines;
     lines-above = subst (λ (f : Totals). Agrees above f) figures (above-agrees (headOf table) held no-receipts no-boards);
     all-lines = subst₂ (λ (t : List ℕ) (f : Totals). Agrees t f) (sym ends) figures
         (whole-agrees (headOf table) held no-receipts no-boards (totalsOfInput input));

@@ -9,7 +9,8 @@ use Rattle.rules.specs.Outside.{postsMade, receiptsMade, boardsMade}
 use Rattle.figures.specs.declared.Totals.{Totals}
 use Rattle.figures.specs.Totals.{totalsIn, outsideOf, madeBy}
 use Rattle.report.specs.State.{foot}
-use Rattle.reading.specs.Report.{Agrees}
+use Rattle.reading.specs.Read.{linesOf}
+use Rattle.reading.specs.Report.{footLines, Agrees}
 use Rattle.rehearsal.specs.Input.{tableIn}
 use Rattle.rehearsal.specs.Rehearsal.{reportOf}
 use Rattle.guarantee.specs.Demand3.{afterCalls}
@@ -41,9 +42,11 @@ totalsOfInput input = totalsMade (tableIn input) (fedBy (tableIn input) (callsIn
 
 -- the report of an input
 pub record TotalsShown (input : List ℕ) : Type 0 where
-  -- its last two lines are the line of these totals, and `end`
+  -- its bytes end with the line of these totals, and `end`
   pub above : List ℕ
   pub ends : reportOf input ≡ above ++ foot (totalsOfInput input)
+  -- which are its last two lines: what stands above ends where a line ends
+  pub last-lines : linesOf (reportOf input) ≡ linesOf above ++ footLines (totalsOfInput input)
   -- and the two last figures are those of the lines above, and of the whole report: the receipt lines, and the item
   -- fields of the board lines
   pub lines-above : Agrees above (totalsOfInput input)

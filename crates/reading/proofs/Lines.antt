@@ -69,25 +69,44 @@ module _ {word : List ℕ} {v : List ℕ → ℕ} where
   each-none f zero h = adds-none
   each-none f (suc n) h = each-none f n (λ k l. h k (omega arith)) ▹ h n (omega arith)
 
+-- no end of a line stands within a line of each kind
+
+pub head-within : (n t h : ℕ) → Within (peers ++ field n ++ threshold ++ field t ++ honest ++ field h)
+unfolding timesIn
+head-within n t h =
+    word-within peers refl & field-within n & word-within threshold refl & field-within t & word-within honest refl & field-within h
+
+pub db-within : (j p x n : ℕ) → Within (db ++ field j ++ field p ++ field x ++ field n)
+unfolding timesIn
+db-within j p x n = word-within db refl & field-within j & field-within p & field-within x & field-within n
+
+pub receipt-within : (p x : ℕ) → Within (receipt ++ field p ++ field x)
+unfolding timesIn
+receipt-within p x = word-within receipt refl & field-within p & field-within x
+
+pub totals-within : (f : Totals) → Within (totals ++ field (f .posts) ++ field (f .receipts) ++ field (f .items))
+unfolding timesIn
+totals-within f = word-within totals refl & field-within (f .posts) & field-within (f .receipts) & field-within (f .items)
+
+pub end-within : Within (101 ∷ 110 ∷ 100 ∷ [])
+unfolding timesIn
+end-within = word-within (101 ∷ 110 ∷ 100 ∷ []) refl
+
 -- lines that begin with neither word: `peers` with 112, a number with a digit, `db` with 100
 module _ {b : ℕ} {rest : List ℕ} (p : eqb 112 b ≡ false) (d : eqb 100 b ≡ false) (letter : 58 ≤ b) {v : List ℕ → ℕ} where
   pub head-adds : (n t h : ℕ) → Adds (b ∷ rest) v (headLine n t h) 0
-  unfolding headLine begins timesIn
-  head-adds n t h =
-      other-line
-      (word-within peers refl & field-within n & word-within threshold refl & field-within t & word-within honest refl & field-within h)
-      (rw p)
+  unfolding headLine begins
+  head-adds n t h = other-line (head-within n t h) (rw p)
 
   pub step-adds : (k a : ℕ) → Adds (b ∷ rest) v (stepLine k a) 0
   unfolding stepLine
   step-adds k a = other-line (decimal-within k & field-within a) (decimal-first b letter rest k (field a))
 
   db-adds : (c : Contents) (j q x : ℕ) → Adds (b ∷ rest) v (dbItem c j q x) 0
-  unfolding dbItem dbLine begins timesIn
+  unfolding dbItem dbLine begins
   db-adds c j q x =
       let n = countIn (signersOf c j q x .0) in
-      none-if (ltb 0 n) (other-line
-      (word-within db refl & field-within j & field-within q & field-within x & field-within n) (rw d))
+      none-if (ltb 0 n) (other-line (db-within j q x n) (rw d))
 
   pub dbs-add : (h : Head) (c : Contents) → Adds (b ∷ rest) v (dbLines h c) 0
   unfolding dbLines dbPeer dbPeriod
@@ -121,7 +140,7 @@ module _ (m B : ℕ) where
     none = times-each 10 (boardItem B) m ∙ sum-zero m (λ x. timesIn 10 (boardItem B x)) (λ x _. within-if (bit B x) x);
   }
 
-  board-within : (p : ℕ) → Within (board ++ field p ++ each (boardItem B) m)
+  pub board-within : (p : ℕ) → Within (board ++ field p ++ each (boardItem B) m)
   unfolding timesIn
   board-within p = word-within board refl & field-within p & items-within
 
@@ -135,8 +154,8 @@ module _ (m B : ℕ) where
 -- receipt lines: one for each receipt, and none among the boards
 module _ (h : Head) (c : Contents) where
   receipt-adds : (p x : ℕ) → AddsReceipts (receiptItem c p x) (digit (c .has (Receipted p x)))
-  unfolding receiptItem receiptLine begins timesIn
-  receipt-adds p x = one-if (c .has (Receipted p x)) (adds-line (word-within receipt refl & field-within p & field-within x) refl)
+  unfolding receiptItem receiptLine begins
+  receipt-adds p x = one-if (c .has (Receipted p x)) (adds-line (receipt-within p x) refl)
 
   receipts-add : AddsReceipts (receiptLines h c) (totalsOn h c .receipts)
   unfolding receiptLines receiptPeriod totalsIn receiptCount howMany
@@ -156,8 +175,8 @@ module _ (h : Head) (c : Contents) where
 -- item fields: those of each board, and none among the receipts
 module _ (h : Head) (c : Contents) where
   no-board : (p x : ℕ) → AddsItems (receiptItem c p x) 0
-  unfolding receiptItem receiptLine begins timesIn
-  no-board p x = none-if (c .has (Receipted p x)) (other-line (word-within receipt refl & field-within p & field-within x) refl)
+  unfolding receiptItem receiptLine begins
+  no-board p x = none-if (c .has (Receipted p x)) (other-line (receipt-within p x) refl)
 
   no-boards : AddsItems (receiptLines h c) 0
   unfolding receiptLines receiptPeriod
@@ -177,10 +196,8 @@ module _ (h : Head) (c : Contents) where
 -- the foot: neither word
 module _ {b : ℕ} {rest : List ℕ} (t : eqb 116 b ≡ false) (e : eqb 101 b ≡ false) {v : List ℕ → ℕ} where
   foot-adds : (f : Totals) → Adds (b ∷ rest) v (foot f) 0
-  unfolding foot totalsLine begins timesIn
-  foot-adds f =
-      other-line (word-within totals refl & field-within (f .posts) & field-within (f .receipts) & field-within (f .items)) (rw t)
-      ▹ other-line (word-within (101 ∷ 110 ∷ 100 ∷ []) refl) (rw e)
+  unfolding foot totalsLine begins
+  foot-adds f = other-line (totals-within f) (rw t) ▹ other-line end-within (rw e)
 
 -- after lines that begin with neither word, those of a state have the figures of the state; and so they have with its foot
 module _ (h : Head) (c : Contents) {front : List ℕ}

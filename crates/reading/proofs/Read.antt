@@ -7,6 +7,7 @@ use mathlib.Core.List.{List, [], _∷_, _++_, append-nil, append-assoc}
 use mathlib.Core.Path.{_≡_, refl, sym, ap, _∙_}
 use lib.Dec.{eqb, ltb}
 use borrow.Author.Tests.{ne-eqb, ltb-true}
+use Rattle.text.specs.Wrote.{each}
 use Rattle.text.specs.Decimal.{spelled, decimal, field}
 use Rattle.reading.specs.Read.{linesFrom, linesOf, timesIn, begins, tally}
 
@@ -103,6 +104,39 @@ until line (b ∷ w) rest e = pick (eqb b 10) e (until (line ++ (b ∷ [])) w re
 pub line-first : (w rest : List ℕ) → Within w → linesOf (w ++ (10 ∷ []) ++ rest) ≡ w ∷ linesOf rest
 unfolding linesFrom
 line-first w rest e = rw (append-assoc w (10 ∷ []) rest) (until [] w (10 ∷ rest) (e .none))
+
+-- a line alone
+pub line-only : (w : List ℕ) → Within w → linesOf (w ++ (10 ∷ [])) ≡ w ∷ []
+unfolding linesFrom
+line-only w e = until [] w (10 ∷ []) (e .none)
+
+-- a text that ends where a line ends: whatever follows it, its lines stand first, and then those of what follows
+pub record Closed (text : List ℕ) : Type 0 where
+  pub apart : (rest : List ℕ) → linesOf (text ++ rest) ≡ linesOf text ++ linesOf rest
+
+pub closed-none : Closed []
+unfolding linesFrom
+closed-none = record { apart = λ rest. refl }
+
+pub closed-line : {w : List ℕ} → Within w → Closed (w ++ (10 ∷ []))
+closed-line {w} e = record { apart = λ rest. line-first w rest e ∙ ap (λ (l : List (List ℕ)). l ++ linesOf rest) (sym (line-only w e)) }
+
+infixl 40 _then_
+pub _then_ : {t u : List ℕ} → Closed t → Closed u → Closed (t ++ u)
+_then_ {t} {u} x y = record {
+  apart = λ rest.
+      ap linesOf (append-assoc t u rest) ∙ x .apart (u ++ rest) ∙ ap (λ (l : List (List ℕ)). linesOf t ++ l) (y .apart rest)
+      ∙ sym (append-assoc (linesOf t) (linesOf u) (linesOf rest)) ∙ ap (λ (l : List (List ℕ)). l ++ linesOf rest) (sym (x .apart u));
+}
+
+pub closed-if : (b : Bool) {t : List ℕ} → Closed t → Closed (cond b t [])
+closed-if true x = x
+closed-if false x = closed-none
+
+pub closed-each : (f : ℕ → List ℕ) (n : ℕ) → ((k : ℕ) → Closed (f k)) → Closed (each f n)
+unfolding each
+closed-each f zero h = closed-none
+closed-each f (suc n) h = closed-each f n h then h n
 
 -- whatever follows it, a text adds so much to what is counted over the lines that begin with a word
 pub record Adds (word : List ℕ) (v : List ℕ → ℕ) (text : List ℕ) (k : ℕ) : Type 0 where
