@@ -1,3 +1,2 @@
-pub mod Marked
 pub mod Readings
 pub mod Sound

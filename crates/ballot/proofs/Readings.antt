@@ -10,12 +10,15 @@ use lib.ListN.{length}
 use borrow.Author.Tests.{lt-ltb, le-ltb, ltb-false, eqb-true}
 use Rattle.base.specs.Bytes.{between}
 use Rattle.base.proofs.Truth.{either}
+use Rattle.base.proofs.Below.{every-at, every-of}
+use Rattle.base.proofs.Bytes.{between-true}
+use Rattle.pairs.specs.Pairs.{textOf}
 use Rattle.ballot.specs.declared.item.Kind.{Kind}
 use Rattle.ballot.specs.declared.item.Kind.the-variants.{Vote, Audit, Cancellation}
 use Rattle.ballot.specs.declared.item.Item.{Item}
 use Rattle.ballot.specs.declared.item.Reading.{Reading}
 use Rattle.ballot.specs.declared.item.Reading.the-variants.{Good, Wrong}
-use Rattle.ballot.specs.Item.{kindNumber, ballotOf, kindByte, bodyAt, goodIf, readKind, readItem, bodySize, bodyOk, Says}
+use Rattle.ballot.specs.Item.{kindNumber, ballotOf, kindByte, bodyAt, goodIf, readKind, readItem, bodySize, bodyOk, Says, readingNumber, isItem, itemAt, allItems}
 
 -- by the length, as the machine goes
 
@@ -85,3 +88,29 @@ says-good text i says =
     let rest : length text - bodyAt ≡ bodySize (i .kind) = omega (arith, says .size) in
     let kind = kind-good (i .ballot) (i .kind) (says .body) in
     sym (text-long text (omega (arith, says .size)) (rw (says .ballot, says .kind, rest) (sym kind)))
+
+-- a text that reads as an item has at most 37 bytes: a vote's ballot number and kind byte, and 32 preferences
+
+body-most : (kind : Kind) → bodyOk kind ≡ true → bodySize kind ≤ 32
+body-most (Vote n) ok = between-true 1 n 32 ok .1
+body-most Audit ok = omega arith
+body-most Cancellation ok = omega arith
+
+pub item-most : (text : List ℕ) → isItem text ≡ true → length text ≤ 37
+unfolding isItem
+item-most text ok = go (readItem text) refl ok
+  where
+    go : (r : Reading) → readItem text ≡ r → eqb (readingNumber r) 0 ≡ true → length text ≤ 37
+    go (Good i) e good = let says = good-says text i e in omega (arith, says .size, body-most (i .kind) (says .body))
+    go Wrong e good = absurd (omega (arith, eqb-true 3 0 good))
+
+-- each of several texts
+
+module _ (s : List ℕ) (at m : ℕ) where
+  pub each-item : allItems s at m ≡ true → (k : ℕ) → k < m → isItem (textOf s at k) ≡ true
+  unfolding allItems itemAt
+  each-item ok = every-at (itemAt s at) m ok
+
+  pub all-read : ((k : ℕ) → k < m → isItem (textOf s at k) ≡ true) → allItems s at m ≡ true
+  unfolding allItems itemAt
+  all-read good = every-of m (itemAt s at) good

@@ -1,50 +1,36 @@
 -- A table that is not refused is sound: each of its facts comes from one of the tests that it has passed.
 use Prim.Native.Nat.{ℕ, _<_}
-use native.Mathlib.Omega.{arith}
-use mathlib.Core.Bool.{true, false}
+use mathlib.Core.Bool.{true}
 use mathlib.Core.List.{List}
-use mathlib.Core.Logic.{_⊎_, inl, inr}
 use mathlib.Core.Path.{_≡_, sym, ap, _∙_}
-use lib.Dec.{ltb}
 use lib.ListN.{length}
-use borrow.Author.Tests.{lt-ltb, ltb-true, ltb-false, not-true, not-false}
-use Rattle.base.proofs.Truth.{split, either}
-use Rattle.base.proofs.Below.{every-at}
-use Rattle.base.proofs.Bytes.{same-of-eq}
+use borrow.Author.Tests.{lt-ltb, not-false}
 use Rattle.base.proofs.Refusals.{passed}
 use Rattle.header.specs.Header.{headerSize, peersOf, thresholdOf, itemsOf, headerOk}
 use Rattle.header.proofs.TwoThirds.{threshold-rule}
 use Rattle.header.proofs.Ranges.{peers-range, threshold-range, honest-range, periods-range, items-range}
 use Rattle.pairs.specs.Pairs.{textOf}
 use Rattle.pairs.proofs.Texts.{text-within, text-length}
-use Rattle.ballot.specs.Table.{tablePairsOk, itemBelow, itemText, itemOk, itemsOk, differ, newAt, noTwins, tableRefusals, refusal}
+use Rattle.twins.proofs.Apart.{same-number}
+use Rattle.ballot.specs.Item.{isItem}
+use Rattle.ballot.specs.Table.{tablePairsOk, itemBelow, itemText, itemsOk, noTwins, tableRefusals, refusal}
 use Rattle.ballot.specs.Sound.{Sound}
+use Rattle.ballot.proofs.Readings.{each-item}
 
 -- the items
 
 -- below m the text of item k is what its pair marks out
-text-of : (s : List ℕ) (k : ℕ) → k < itemsOf s → itemText s k ≡ textOf s (headerSize s) k
+pub text-of : (s : List ℕ) (k : ℕ) → k < itemsOf s → itemText s k ≡ textOf s (headerSize s) k
 unfolding itemBelow
 text-of s k l = rw (lt-ltb k (itemsOf s) l)
 
-all-good : (s : List ℕ) → itemsOk s ≡ true → (k : ℕ) → k < itemsOf s → itemOk s k ≡ true
+all-good : (s : List ℕ) → itemsOk s ≡ true → (k : ℕ) → k < itemsOf s → isItem (itemText s k) ≡ true
 unfolding itemsOk
-all-good s ok = every-at (itemOk s) (itemsOf s) ok
+all-good s ok k l = rw (text-of s k l) (each-item s (headerSize s) (itemsOf s) ok k l)
 
-module _ (s : List ℕ) (ok : noTwins s ≡ true) where
-  not-before : (i j : ℕ) → i < j → j < itemsOf s → itemText s i ≡ itemText s j → ⊥
-  unfolding noTwins newAt differ
-  not-before i j before l e =
-      let new = every-at (newAt s) (itemsOf s) ok j l in
-      split (same-of-eq _ _ e) (not-true _ (every-at (differ s j) j new i before))
-
-  same-item : (i j : ℕ) → i < itemsOf s → j < itemsOf s → itemText s i ≡ itemText s j → i ≡ j
-  same-item i j l m e = go (either (ltb i j)) (either (ltb j i))
-    where
-      go : (ltb i j ≡ true) ⊎ (ltb i j ≡ false) → (ltb j i ≡ true) ⊎ (ltb j i ≡ false) → i ≡ j
-      go (inl p) q = absurd (not-before i j (ltb-true i j p) m e)
-      go (inr p) (inl q) = absurd (not-before j i (ltb-true j i q) l (sym e))
-      go (inr p) (inr q) = omega (arith, ltb-false i j p, ltb-false j i q)
+same-item : (s : List ℕ) → noTwins s ≡ true → (i j : ℕ) → i < itemsOf s → j < itemsOf s → itemText s i ≡ itemText s j → i ≡ j
+unfolding noTwins
+same-item s ok i j l h e = same-number s (headerSize s) (itemsOf s) ok i j l h (sym (text-of s i l) ∙ e ∙ text-of s j h)
 
 -- the whole table
 

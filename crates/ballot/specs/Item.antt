@@ -1,4 +1,4 @@
--- Items: a ballot and one of three kinds, read from an item's text.
+-- Items: a ballot and one of three kinds, read from an item's text; and whether each of several texts reads as one.
 use Prim.Native.Nat.{ℕ, _+_, _-_}
 use mathlib.Core.Bool.{Bool, true, cond}
 use mathlib.Core.List.{List}
@@ -6,7 +6,9 @@ use mathlib.Core.Path.{_≡_}
 use lib.Dec.{ltb, eqb}
 use lib.ListN.{length}
 use Rattle.base.specs.Bytes.{byteAt, numberAt, between}
+use Rattle.base.specs.Below.{every}
 use Rattle.base.specs.Refusals.{item, numberOf}
+use Rattle.pairs.specs.Pairs.{textOf}
 use Rattle.ballot.specs.declared.item.Kind.{Kind}
 use Rattle.ballot.specs.declared.item.Kind.the-variants.{Vote, Audit, Cancellation}
 use Rattle.ballot.specs.declared.item.Item.{Item}
@@ -50,6 +52,18 @@ readKind b k rest =
 -- what an item's text says
 unfoldable pub readItem : List ℕ → Reading
 readItem text = cond (ltb (length text) bodyAt) Wrong (readKind (ballotOf text) (kindByte text) (length text - bodyAt))
+
+-- the text reads as an item
+unfoldable pub isItem : List ℕ → Bool
+isItem text = eqb (readingNumber (readItem text)) 0
+
+-- of the texts that pairs from byte `at` on mark out: text k reads as an item
+unfoldable pub itemAt : List ℕ → ℕ → ℕ → Bool
+itemAt s at k = isItem (textOf s at k)
+
+-- each of m of them reads as an item
+unfoldable pub allItems : List ℕ → ℕ → ℕ → Bool
+allItems s at m = every m (itemAt s at)
 
 -- the number of bytes after the kind byte
 abbrev pub bodySize : Kind → ℕ

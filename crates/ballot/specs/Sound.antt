@@ -6,7 +6,8 @@ use mathlib.Core.Path.{_≡_}
 use lib.ListN.{length}
 use Rattle.header.specs.Header.{headerSize, peersOf, thresholdOf, periodsOf, itemsOf, headOf, isHonest}
 use Rattle.pairs.specs.Pairs.{offsetOf, sizeOf}
-use Rattle.ballot.specs.Table.{itemText, itemOk}
+use Rattle.ballot.specs.Item.{isItem}
+use Rattle.ballot.specs.Table.{itemText}
 
 pub record Sound (s : List ℕ) : Type 0 where
   -- n is 1 to 16
@@ -25,6 +26,6 @@ pub record Sound (s : List ℕ) : Type 0 where
   -- each item's text lies in the table, has the length that its pair says, and reads as an item
   pub text-within : (k : ℕ) → k < itemsOf s → offsetOf s (headerSize s) k + sizeOf s (headerSize s) k ≤ length s
   pub text-length : (k : ℕ) → k < itemsOf s → length (itemText s k) ≡ sizeOf s (headerSize s) k
-  pub text-good : (k : ℕ) → k < itemsOf s → itemOk s k ≡ true
+  pub text-good : (k : ℕ) → k < itemsOf s → isItem (itemText s k) ≡ true
   -- no two items have the same text
   pub no-twins : (i j : ℕ) → i < itemsOf s → j < itemsOf s → itemText s i ≡ itemText s j → i ≡ j

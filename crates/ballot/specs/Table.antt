@@ -2,13 +2,12 @@
 use Prim.Native.Nat.{ℕ}
 use mathlib.Core.Bool.{Bool, not, cond}
 use mathlib.Core.List.{List, [], _∷_}
-use lib.Dec.{eqb, ltb}
-use Rattle.base.specs.Bytes.{sameBytes}
-use Rattle.base.specs.Below.{every}
+use lib.Dec.{ltb}
 use Rattle.base.specs.Refusals.{Refusals, header, pairs, item, twin, numbered, first}
 use Rattle.header.specs.Header.{headerSize, itemsOf, headerOk}
 use Rattle.pairs.specs.Pairs.{textOf, pairsOk}
-use Rattle.ballot.specs.Item.{readItem, readingNumber}
+use Rattle.twins.specs.Twins.{twinless}
+use Rattle.ballot.specs.Item.{allItems}
 
 -- the table's own pairs are right
 unfoldable pub tablePairsOk : List ℕ → Bool
@@ -22,25 +21,13 @@ itemBelow s items k = cond (ltb k items) (textOf s (headerSize s) k) []
 abbrev pub itemText : List ℕ → ℕ → List ℕ
 itemText s k = itemBelow s (itemsOf s) k
 
--- the text of item k reads as an item
-unfoldable pub itemOk : List ℕ → ℕ → Bool
-itemOk s k = eqb (readingNumber (readItem (itemText s k))) 0
-
 -- every item's text reads as an item
 unfoldable pub itemsOk : List ℕ → Bool
-itemsOk s = every (itemsOf s) (itemOk s)
-
--- items i and j have different texts
-unfoldable pub differ : List ℕ → ℕ → ℕ → Bool
-differ s j i = not (sameBytes (itemText s i) (itemText s j))
-
--- no item before item j has its text
-unfoldable pub newAt : List ℕ → ℕ → Bool
-newAt s j = every j (differ s j)
+itemsOk s = allItems s (headerSize s) (itemsOf s)
 
 -- no two items are twins, document 01's word for two items whose bytes are the same
 unfoldable pub noTwins : List ℕ → Bool
-noTwins s = every (itemsOf s) (newAt s)
+noTwins s = twinless s (headerSize s) (itemsOf s)
 
 -- the table's refusals, in the order in which they are judged
 abbrev pub tableRefusals : List ℕ → Refusals

@@ -1,6 +1,6 @@
-// Items: a ballot and one of three kinds, read from an item's text.
+// Items: a ballot and one of three kinds, read from an item's text; and whether each of several texts reads as one.
 ghost use mathlib.Core.Path.{_≡_};
-ghost use Rattle.ballot.specs.Item.{ballotOf, goodIf, readKind, readItem, readingNumber};
+ghost use Rattle.ballot.specs.Item.{ballotOf, goodIf, readKind, readItem, readingNumber, itemAt, allItems};
 
 // What an item is, beside its ballot.
 pub enum Kind {
@@ -93,4 +93,25 @@ pub fn reading_number(r: Reading) -> u8
         Reading::Good(_) => 0,
         Reading::Wrong => 3,
     }
+}
+
+// Of the texts that pairs from byte `at` on mark out: whether text k reads as an item.
+fn is_item(s: &[u8], at: u8, k: u8) -> bool
+    ensures { λ r. ⌜ r ≡ itemAt (now (s .entry)) at k ⌝ }
+{
+    reading_number(read_item(pairs::text(s, at, k))) == 0
+}
+
+// Whether each of m of them reads as an item.
+pub fn all_items(s: &[u8], at: u8, m: u8) -> bool
+    ensures { λ r. ⌜ r ≡ allItems (now (s .entry)) at m ⌝ }
+{
+    let mut k: u8 = 0;
+    while k < m {
+        if !is_item(s, at, k) {
+            return false;
+        }
+        k += 1;
+    }
+    true
 }

@@ -1,12 +1,11 @@
 // The ballot table: its header, pairs and items, read from lent bytes, and the first refusal of 1 to 4 that applies.
 // An item's text is handed on as the part of the table that it is; nothing is copied, and no byte is changed.
-// It uses header and pairs to read the table, and base.
+// It uses header and pairs to read the table, twins to compare its items, and base.
 ghost use mathlib.Core.Path.{_≡_};
-ghost use Rattle.ballot.specs.Table.{tablePairsOk, itemOk, itemsOk, refusal};
+ghost use Rattle.ballot.specs.Table.{tablePairsOk, itemsOk, noTwins, refusal};
 
 pub mod item; // an item, read from its text
 pub mod reader; // a reader that stands over the table's bytes
-mod twins; // whether two items have the same text
 
 // Whether the table's own pairs are right.
 fn table_pairs_ok(table: &[u8]) -> bool
@@ -15,26 +14,18 @@ fn table_pairs_ok(table: &[u8]) -> bool
     pairs::pairs_ok(table, header::header_size(table), header::items(table))
 }
 
-// Whether the text of item k reads as an item.
-fn item_ok(table: &[u8], k: u8) -> bool
-    ensures { λ r. ⌜ r ≡ itemOk (now (table .entry)) k ⌝ }
-{
-    item::reading_number(item::read_item(reader::item_at(table, k))) == 0
-}
-
 // Whether every item's text reads as an item.
 fn items_ok(table: &[u8]) -> bool
     ensures { λ r. ⌜ r ≡ itemsOk (now (table .entry)) ⌝ }
 {
-    let m = header::items(table);
-    let mut k: u8 = 0;
-    while k < m {
-        if !item_ok(table, k) {
-            return false;
-        }
-        k += 1;
-    }
-    true
+    item::all_items(table, header::header_size(table), header::items(table))
+}
+
+// Whether no two items are twins.
+fn no_twins(table: &[u8]) -> bool
+    ensures { λ r. ⌜ r ≡ noTwins (now (table .entry)) ⌝ }
+{
+    twins::no_twins(table, header::header_size(table), header::items(table))
 }
 
 // The first refusal that applies, 1 header, 2 pairs, 3 item or 4 twin; 0 where none does.
@@ -50,7 +41,7 @@ pub fn check_table(table: &[u8]) -> u8
     if !items_ok(table) {
         return 3;
     }
-    if !twins::no_twins(table) {
+    if !no_twins(table) {
         return 4;
     }
     0

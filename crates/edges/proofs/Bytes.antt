@@ -15,8 +15,9 @@ use Rattle.base.proofs.Truth.{and-l, and-r}
 use Rattle.header.specs.Header.{headOf, thresholdOf, honestCount}
 use Rattle.header.specs.Header.{headerSize, fieldOf, leastThreshold, thresholdOk, fieldsOk, headerOk}
 use Rattle.pairs.specs.Pairs.{endBefore, startsAtEnd, pairsFit, pairsOk}
-use Rattle.ballot.specs.Item.{readKind, readItem}
-use Rattle.ballot.specs.Table.{tablePairsOk, itemBelow, itemOk, itemsOk, differ, newAt, noTwins, refusal}
+use Rattle.ballot.specs.Item.{readKind, readItem, isItem, itemAt, allItems}
+use Rattle.twins.specs.Twins.{differ, newAt, twinless}
+use Rattle.ballot.specs.Table.{tablePairsOk, itemBelow, itemsOk, noTwins, refusal}
 use Rattle.clash.specs.Clash.{clash, clashIn}
 use Rattle.edges.specs.Premise.{barelyBytes, BarelyBytes}
 
@@ -32,7 +33,8 @@ clashes n = clashIn (barelyBytes n) 0 1
 
 all-good : every 16 (λ k. taken (k + 1) && (just (k + 1) && clashes (k + 1))) ≡ true
 unfolding refusal headerOk headerSize fieldOf fieldsOk thresholdOk leastThreshold tablePairsOk pairsOk pairsFit startsAtEnd endBefore
-    itemBelow itemsOk itemOk noTwins newAt differ clashIn clash readItem readKind first every numberAt part sameBytes bit member weight
+    itemBelow itemsOk allItems itemAt isItem
+    noTwins twinless newAt differ clashIn clash readItem readKind first every numberAt part sameBytes bit member weight
 all-good = refl
 
 pub met-by-bytes : (n : ℕ) → 1 ≤ n → n ≤ 16 → BarelyBytes n

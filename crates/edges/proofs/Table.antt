@@ -7,14 +7,15 @@ use Rattle.base.specs.Weight.{weight}
 use Rattle.base.specs.Bytes.{numberAt, part, sameBytes}
 use Rattle.header.specs.Header.{headerSize, fieldOf, leastThreshold, thresholdOk, fieldsOk, headerOk}
 use Rattle.pairs.specs.Pairs.{endBefore, startsAtEnd, pairsFit, pairsOk}
-use Rattle.ballot.specs.Item.{readKind, readItem}
-use Rattle.ballot.specs.Table.{tablePairsOk, itemBelow, itemOk, itemsOk, differ, newAt, noTwins, refusal}
+use Rattle.ballot.specs.Item.{readKind, readItem, isItem, itemAt, allItems}
+use Rattle.twins.specs.Twins.{differ, newAt, twinless}
+use Rattle.ballot.specs.Table.{tablePairsOk, itemBelow, itemsOk, noTwins, refusal}
 use Rattle.clash.specs.Clash.{clash, clashIn, clashMask}
 use Rattle.edges.specs.Marked.{TableEdges, TableCases}
 
 pub table-edges : TableEdges
 unfolding refusal headerOk headerSize fieldOf fieldsOk thresholdOk leastThreshold tablePairsOk pairsOk pairsFit startsAtEnd endBefore
-    itemBelow itemsOk itemOk noTwins newAt differ clash readItem readKind first every numberAt part sameBytes
+    itemBelow itemsOk allItems itemAt isItem noTwins twinless newAt differ clash readItem readKind first every numberAt part sameBytes
 table-edges =
     record {
       three-peers-threshold-2 = refl;
@@ -33,7 +34,8 @@ table-edges =
 
 pub table-cases : TableCases
 unfolding refusal headerOk headerSize fieldOf fieldsOk thresholdOk leastThreshold tablePairsOk pairsOk pairsFit startsAtEnd endBefore
-    itemBelow itemsOk itemOk noTwins newAt differ clashMask clashIn clash readItem readKind first every numberAt part sameBytes bit
+    itemBelow itemsOk allItems itemAt isItem
+    noTwins twinless newAt differ clashMask clashIn clash readItem readKind first every numberAt part sameBytes bit
     member pack weight
 table-cases =
     record {

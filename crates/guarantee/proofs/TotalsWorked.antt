@@ -12,8 +12,9 @@ use Rattle.base.specs.Weight.{weight}
 use Rattle.header.specs.Header.{headerSize, fieldOf, leastThreshold, thresholdOk, fieldsOk, headerOk}
 use Rattle.header.specs.Quorum.{weightOf}
 use Rattle.pairs.specs.Pairs.{endBefore, startsAtEnd, pairsFit, pairsOk}
-use Rattle.ballot.specs.Item.{readKind, readItem}
-use Rattle.ballot.specs.Table.{tablePairsOk, itemBelow, itemOk, itemsOk, differ, newAt, noTwins, refusal}
+use Rattle.ballot.specs.Item.{readKind, readItem, isItem, itemAt, allItems}
+use Rattle.twins.specs.Twins.{differ, newAt, twinless}
+use Rattle.ballot.specs.Table.{tablePairsOk, itemBelow, itemsOk, noTwins, refusal}
 use Rattle.clash.specs.Clash.{clash, clashIn}
 use Rattle.rules.specs.Table.{clashing}
 use Rattle.rules.specs.Bag.{sameEntry, isIn, enter, isFull, boardsIn}
@@ -61,9 +62,10 @@ pub record Input : Type 0 where
   pub table : tableIn inputR ≡ tables.caseR
   pub steps : callsIn inputR ≡ calls caseR
 
-input : Input
+pub input : Input
 unfolding inputRefusal tableIn tableThere stepCount callAt tab refusal headerOk headerSize fieldOf fieldsOk thresholdOk leastThreshold
-    tablePairsOk pairsOk pairsFit startsAtEnd endBefore itemBelow itemsOk itemOk noTwins newAt differ readItem readKind first every
+    tablePairsOk pairsOk pairsFit startsAtEnd endBefore itemBelow itemsOk allItems itemAt isItem
+    noTwins twinless newAt differ readItem readKind first every
     numberAt part sameBytes
 input = record { case-r-taken = refl; none-honest-taken = refl; taken = refl; table = refl; steps = refl }
 

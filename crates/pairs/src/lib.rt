@@ -20,21 +20,21 @@ fn pair_number(s: &[u8], i: usize) -> u16
 }
 
 // The offset that pair k gives.
-fn offset(s: &[u8], at: u8, k: u8) -> u16
+pub fn offset(s: &[u8], at: u8, k: u8) -> u16
     ensures { λ r. ⌜ r ≡ offsetOf (now (s .entry)) at k ⌝ }
 {
     pair_number(s, at as usize + 4 * (k as usize))
 }
 
 // The length that pair k gives.
-fn size(s: &[u8], at: u8, k: u8) -> u16
+pub fn size(s: &[u8], at: u8, k: u8) -> u16
     ensures { λ r. ⌜ r ≡ sizeOf (now (s .entry)) at k ⌝ }
 {
     pair_number(s, at as usize + 4 * (k as usize) + 2)
 }
 
 // Where the pairs end, and the first text starts.
-fn first_offset(at: u8, m: u8) -> usize
+pub fn first_offset(at: u8, m: u8) -> usize
     ensures { λ r. ⌜ r ≡ firstOffset at m ⌝ }
 {
     at as usize + 4 * (m as usize)

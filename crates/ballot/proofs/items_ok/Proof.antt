@@ -1,54 +1,12 @@
--- The items are tested one after the other: the first k read as items.
-use Prim.Native.Nat.{_≤_, _-_}
-use mathlib.Core.Bool.{true}
-use mathlib.Core.Path.{_≡_}
-use native.Mathlib.Omega.{arith}
+-- The table's pairs start where its header ends, and are as many as its items.
 use borrow.Author.Needs.{needs}
-use Rattle.base.specs.Below.{every}
-use Rattle.base.proofs.Below.{every-none}
-use Rattle.ballot.specs.Table.{itemOk, itemsOk}
-use Rattle.base.proofs.Returns.{one-fails, one-passes, all-pass}
+use Rattle.ballot.specs.Table.{itemsOk}
 use Rattle.ballot.proofs.items_ok.Statement.{statement}
 use Rattle.ballot.proofs.items_ok.Tie as tie
 
-abbrev Inv-loop : tie.InvT-loop
-Inv-loop table m k₀ k = (k ≤ m) × (every k (itemOk table) ≡ true)
-
-abbrev μ-loop : tie.MeasureT-loop
-μ-loop table m k₀ k = m - k
-
-loop-holds : tie.Need-loop-holds Inv-loop μ-loop
-loop-holds c = (omega arith, every-none _)
-
-returns : tie.Need-returns Inv-loop μ-loop
+returns : tie.Need-returns
 unfolding itemsOk
-returns c =
-    let l = c .before .before .before .loop in
-    one-fails _ (l .k) _ (omega arith) (c .before .item-ok .ensures) (c .if1 .taken)
-
-loop-less : tie.Need-loop-less Inv-loop μ-loop
-loop-less c = omega arith
-
-loop-again : tie.Need-loop-again Inv-loop μ-loop
-loop-again c =
-    let l = c .before .before .before .loop in
-    (omega arith, one-passes _ (l .k) (l .inv .1) (c .before .item-ok .ensures) (c .if1 .left))
-
-returns-2 : tie.Need-returns-2 Inv-loop μ-loop
-unfolding itemsOk
-returns-2 c = let l = c .before .loop in all-pass _ (l .k) _ (omega arith) (l .inv .1)
+returns c = simp (c .before .items .ensures, c .before .before .header-size .ensures) at (c .all-items .ensures)
 
 pub items-ok-spec : {M : Type 1} → statement M
-items-ok-spec =
-    tie.close
-    (tie.spec
-    Inv-loop
-    μ-loop
-    (λ c κs. search needs)
-    loop-holds
-    (λ c κs. search needs)
-    returns
-    (λ c. search needs)
-    loop-less
-    loop-again
-    returns-2)
+items-ok-spec = tie.close (tie.spec (λ c κs. search needs) (λ c κs. search needs) (λ c κs. search needs) returns)

@@ -1,8 +1,8 @@
--- The same text has the same mark, so an item whose mark was not seen is new.
+-- The same text has the same mark, so a text whose mark was not seen is new.
 use borrow.Author.Needs.{needs}
-use Rattle.ballot.proofs.Marked.{unseen-new}
-use Rattle.ballot.proofs.twins.is_new.Statement.{statement}
-use Rattle.ballot.proofs.twins.is_new.Tie as tie
+use Rattle.twins.proofs.Marked.{unseen-new}
+use Rattle.twins.proofs.is_new.Statement.{statement}
+use Rattle.twins.proofs.is_new.Tie as tie
 
 returns : tie.Need-returns
 returns c = search unseen-new
