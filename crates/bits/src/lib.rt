@@ -4,6 +4,7 @@ ghost use mathlib.Core.Path.{_≡_};
 ghost use Prim.Native.Nat.{_+_, _/_, _^_, _<_, _≤_};
 ghost use lib.Dec.{ltb};
 ghost use lib.ListN.{length};
+ghost use Rattle.base.specs.Bits.{bit};
 ghost use Rattle.bits.specs.Row.{bitAt, putBit, zeros};
 ghost use Rattle.bits.specs.Number.{num, stored, joined};
 use base::wide64;
@@ -93,6 +94,14 @@ pub fn is_below(board: u64, m: u8) -> bool
         return true;
     }
     board >> m == 0
+}
+
+// Whether a number has bit x: a board, item x.
+pub fn has_bit(board: u64, x: u8) -> bool
+    requires { ⌜ x < 64 ⌝ }
+    ensures { λ r. ⌜ r ≡ bit board x ⌝ }
+{
+    (board >> x) % 2 == 1
 }
 
 // Whether the n bytes from o on are 0. The loop gathers and asks at its end, so that it takes many bytes at a time.

@@ -1,10 +1,9 @@
 // A line of each kind.
 ghost use Prim.Native.Nat.{_<_, _≤_};
-ghost use mathlib.Core.Path.{_≡_};
-ghost use Rattle.base.specs.Bits.{bit};
 ghost use Rattle.text.specs.Wrote.{Wrote, each};
 ghost use Rattle.report.specs.Lines.{refusedLine, headLine, stepLine, dbLine, receiptLine, boardItem, boardLine};
 ghost use Rattle.report.specs.Lines.{totalsLine};
+use bits::has_bit;
 use figures::Totals;
 use text::put_byte;
 use text::put_decimal;
@@ -65,20 +64,12 @@ pub fn put_receipt(out: &mut [u8], at: usize, p: u8, x: u8) -> usize
     put_byte(out, c, b'\n')
 }
 
-// Whether the board has item x.
-fn has(board: u64, x: u8) -> bool
-    requires { ⌜ x < 64 ⌝ }
-    ensures { λ r. ⌜ r ≡ bit board x ⌝ }
-{
-    (board >> x) % 2 == 1
-}
-
 // A blank and item x, if the board has it.
 fn put_item(out: &mut [u8], at: usize, board: u64, x: u8) -> usize
     requires { ⌜ x < 64 ⌝ }
     ensures { λ to. ⌜ Wrote (now (out .entry)) at (boardItem board x) (now (out .exit)) to ⌝ }
 {
-    if has(board, x) {
+    if has_bit(board, x) {
         return put_small(out, at, x);
     }
     at
