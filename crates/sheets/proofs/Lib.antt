@@ -1,0 +1,7 @@
+pub mod Judged
+pub mod Finding
+pub mod Exact
+pub mod Joined
+pub mod ReadBack
+pub mod Only
+pub mod Cases
