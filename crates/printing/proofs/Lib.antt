@@ -1,0 +1,5 @@
+pub mod Finding
+pub mod Answering
+pub mod Chosen
+pub mod ReadsBack
+pub mod Measuring

@@ -1,0 +1,4 @@
+pub mod Board
+pub mod Written
+pub mod Measured
+pub mod ReadsBack
