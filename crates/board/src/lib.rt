@@ -1,5 +1,5 @@
 // The engine for C, whose slices are a pointer and a length: `include/board.h` declares these functions.
-// It uses ballot, engine and rehearsal, and adds nothing to what they promise.
+// It uses ballot, engine, rehearsal, printing and sheets, and adds nothing to what they promise.
 ghost use Prim.Native.Nat.{_≤_};
 ghost use mathlib.Core.Path.{_≡_};
 ghost use lib.ListN.{length};
@@ -7,7 +7,12 @@ ghost use Rattle.ballot.specs.Table.{refusal};
 ghost use Rattle.state.specs.Layout.{size};
 ghost use Rattle.text.specs.Wrote.{over};
 ghost use Rattle.rehearsal.specs.Rehearsal.{reported, stateLeft, reportMost};
+ghost use Rattle.sheets.specs.Sheet.{sheetMost};
+ghost use Rattle.sheets.specs.Found.{sheetAnswer, found, foundNumber, foundOffset, foundLength};
+ghost use Rattle.printing.specs.Written.{written, sheetLeft, writtenNumber, writtenLength};
 ghost use Rattle.engine.specs.Engine.{stepAnswer, stepBytes, freshAnswer, freshBytes};
+use printing::Written;
+use sheets::Found;
 
 // Judges a table; the answer is 0, or the refusal.
 #[no_mangle]
@@ -60,4 +65,70 @@ pub extern "C" fn board_rehearse(input: &[u8], state: &mut [u8], out: &mut [u8])
     ensures { λ _. ⌜ now (state .exit) ≡ stateLeft (now (input .entry)) (now (state .entry)) ⌝ }
 {
     rehearsal::rehearse(input, state, out)
+}
+
+// The length of a buffer that has room for every sheet.
+#[no_mangle]
+pub extern "C" fn board_sheet_most() -> usize
+    ensures { λ r. ⌜ r ≡ sheetMost ⌝ }
+{
+    sheets::SHEET_MOST
+}
+
+// Writes the sheet of a period's board over the start of a buffer, and its length; the answer is 0, or the refusal,
+// which alters neither.
+#[no_mangle]
+pub extern "C" fn board_write_sheet(
+    table: &[u8],
+    state: &[u8],
+    period: u8,
+    sheet: &mut [u8],
+    long: &mut usize,
+) -> u8
+    ensures { λ r. ⌜ r ≡ writtenNumber
+        (written (now (table .entry)) (now (state .entry)) period (length (now (sheet .entry)))) ⌝ }
+    ensures { λ _. ⌜ now (sheet .exit)
+        ≡ sheetLeft (now (table .entry)) (now (state .entry)) period (now (sheet .entry)) ⌝ }
+    ensures { λ _. ⌜ now (long .exit) ≡ writtenLength (now (long .entry))
+        (written (now (table .entry)) (now (state .entry)) period (length (now (sheet .entry)))) ⌝ }
+{
+    match printing::write_sheet(table, state, period, sheet) {
+        Written::Sheet(n) => {
+            *long = n;
+            0
+        }
+        Written::Refused(r) => r,
+    }
+}
+
+// Judges a sheet; the answer is 0, or 16.
+#[no_mangle]
+pub extern "C" fn board_check_sheet(sheet: &[u8]) -> u8
+    ensures { λ r. ⌜ r ≡ sheetAnswer (now (sheet .entry)) ⌝ }
+{
+    sheets::check_sheet(sheet)
+}
+
+// Gives the offset and the length of an item's text in a sheet; the answer is 0, or the refusal, which alters neither.
+#[no_mangle]
+pub extern "C" fn board_sheet_item(
+    sheet: &[u8],
+    item: u8,
+    start: &mut usize,
+    long: &mut usize,
+) -> u8
+    ensures { λ r. ⌜ r ≡ foundNumber (found (now (sheet .entry)) item) ⌝ }
+    ensures { λ _. ⌜ now (start .exit)
+        ≡ foundOffset (now (start .entry)) (found (now (sheet .entry)) item) ⌝ }
+    ensures { λ _. ⌜ now (long .exit)
+        ≡ foundLength (now (long .entry)) (found (now (sheet .entry)) item) ⌝ }
+{
+    match sheets::find_item(sheet, item) {
+        Found::Part(offset, size) => {
+            *start = offset;
+            *long = size;
+            0
+        }
+        Found::Refused(r) => r,
+    }
 }

@@ -1,5 +1,7 @@
 pub mod Demand3
 pub mod Rehearsals
 pub mod Totals
+pub mod Sheets
 pub mod TotalsWorked
 pub mod Worked
+pub mod SheetsWorked

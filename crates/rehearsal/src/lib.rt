@@ -15,8 +15,8 @@ pub const INPUT_MOST: usize = 65536;
 // No report is longer.
 pub const REPORT_MOST: usize = 222000;
 
-mod input; // where the table ends, what is refused, and the steps
-mod run; // the steps, and the report around them
+pub mod input; // where the table ends, what is refused, and the steps
+pub mod run; // the steps, and the report around them
 
 // Rehearses the input and answers the report's length; as much of the report as fits is written.
 // What is refused, the input with 15 or 1 to 4 or the state's length with 14, leaves the state as it was.
