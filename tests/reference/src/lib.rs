@@ -4,6 +4,7 @@
 //! engine. It is not fast, and its state is not a buffer: number 14 (state),
 //! which is about the buffer's bytes, has no place here.
 //!
+//! - `pairs`: pairs of offset and length, and the texts that they mark out
 //! - `table`: the ballot table, its items, the clash, the thresholds
 //! - `state`: what is held outside and by each peer
 //! - `form`: 13 bytes as a step, or 5
@@ -12,19 +13,22 @@
 //!   dishonest peer stand in `false_steps`
 //! - `report`: the rehearsal, from input bytes to output bytes
 //! - `totals`: the figures at its foot, counted from the accepted steps
+//! - `sheet`: a published board as a file of its own, written and read
 //! - `ideal`: the ideal board
 
 mod false_steps;
 pub mod form;
 pub mod ideal;
+pub mod pairs;
 mod refusals;
 pub mod report;
+pub mod sheet;
 pub mod state;
 pub mod step;
 pub mod table;
 pub mod totals;
 
-/// The numbers on the report, but for 0 (done) and 14 (state).
+/// The numbers that are answered, but for 0 (done) and 14 (state).
 #[derive(Clone, Copy, Debug, PartialEq, Eq)]
 pub enum Refusal {
     Header = 1,
@@ -41,6 +45,7 @@ pub enum Refusal {
     Short = 12,
     Full = 13,
     Input = 15,
+    Sheet = 16,
 }
 
 impl Refusal {

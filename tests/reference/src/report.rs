@@ -25,8 +25,13 @@ pub struct Run {
 pub fn rehearse(input: &[u8]) -> Vec<u8> {
     match run(input) {
         Ok(run) => report(&run).into_bytes(),
-        Err(refusal) => format!("refused {}\n", refusal.number()).into_bytes(),
+        Err(refusal) => refused(refusal),
     }
+}
+
+/// The whole output for an input that is refused.
+pub fn refused(refusal: Refusal) -> Vec<u8> {
+    format!("refused {}\n", refusal.number()).into_bytes()
 }
 
 /// The steps of an input, run from the fresh state of its table.

@@ -1,13 +1,17 @@
 //! The ballot table: header, pairs, items, clash, thresholds; refusals 1 to 4.
 
+use crate::pairs::{last_end, read_pairs, two_bytes, write_pairs, Pair};
 use crate::Refusal;
 use std::collections::BTreeSet;
 
 /// The least threshold t for n = 1..16.
 pub const LEAST_THRESHOLD: [usize; 16] = [1, 2, 3, 3, 4, 5, 5, 6, 7, 7, 8, 9, 9, 10, 11, 11];
 
+/// The most periods that a table has, and the most items.
+pub const MOST_PERIODS: usize = 8;
+pub const MOST_ITEMS: usize = 64;
+
 const HEADER_LENGTH: usize = 6;
-const PAIR_LENGTH: usize = 4;
 
 /// A table that none of 1 to 4 refuses.
 #[derive(Clone, Debug, PartialEq, Eq)]
@@ -46,11 +50,6 @@ struct Header {
     m: usize,
 }
 
-struct Pair {
-    offset: usize,
-    length: usize,
-}
-
 impl Table {
     pub fn m(&self) -> usize {
         self.items.len()
@@ -71,6 +70,18 @@ impl Table {
     }
 }
 
+impl Item {
+    /// Its bytes: ballot number (4 bytes, high first), kind byte, preferences.
+    pub fn text(&self) -> Vec<u8> {
+        let (kind, preferences) = match &self.kind {
+            Kind::Vote(preferences) => (1, &preferences[..]),
+            Kind::Audit => (2, &[][..]),
+            Kind::Cancellation => (3, &[][..]),
+        };
+        [&self.ballot.to_be_bytes()[..], &[kind], preferences].concat()
+    }
+}
+
 /// Two different items of one ballot, neither a cancellation, at least one a
 /// vote.
 pub fn clash(x: &Item, y: &Item) -> bool {
@@ -87,9 +98,8 @@ fn is_vote(item: &Item) -> bool {
 
 /// A table that is all of the bytes given.
 pub fn read_table(bytes: &[u8]) -> Result<Table, Refusal> {
-    let header = read_header(bytes)?;
-    let pairs = read_pairs(bytes, header.m)?;
-    if table_end(&pairs) != bytes.len() {
+    let (header, pairs) = read_start(bytes)?;
+    if last_end(&pairs, HEADER_LENGTH) != bytes.len() {
         return Err(Refusal::Pairs);
     }
     finish(bytes, header, &pairs)
@@ -98,13 +108,19 @@ pub fn read_table(bytes: &[u8]) -> Result<Table, Refusal> {
 /// The table at the front of a rehearsal input, and where it ends: at its
 /// last pair's end.
 pub fn read_front(input: &[u8]) -> Result<(Table, usize), Refusal> {
-    let header = read_header(input)?;
-    let pairs = read_pairs(input, header.m)?;
-    let end = table_end(&pairs);
+    let (header, pairs) = read_start(input)?;
+    let end = last_end(&pairs, HEADER_LENGTH);
     if end > input.len() {
         return Err(Refusal::Pairs);
     }
     Ok((finish(input, header, &pairs)?, end))
+}
+
+/// The header and the pairs: 1, and 2 but for the table's end.
+fn read_start(bytes: &[u8]) -> Result<(Header, Vec<Pair>), Refusal> {
+    let header = read_header(bytes)?;
+    let pairs = read_pairs(bytes, HEADER_LENGTH, header.m).ok_or(Refusal::Pairs)?;
+    Ok((header, pairs))
 }
 
 /// 1: header cut short, or a header field out of range.
@@ -131,57 +147,32 @@ fn in_range(header: &Header) -> bool {
     (1..=16).contains(&n)
         && (LEAST_THRESHOLD[n - 1]..=n).contains(&header.t)
         && peers_of(header.honest).iter().all(|k| *k <= n)
-        && (1..=8).contains(&header.periods)
-        && header.m <= 64
+        && (1..=MOST_PERIODS).contains(&header.periods)
+        && header.m <= MOST_ITEMS
 }
 
-/// 2: pairs cut short, the first offset not 6 + 4m, or a next offset that is
-/// not the previous offset plus length.
-fn read_pairs(bytes: &[u8], m: usize) -> Result<Vec<Pair>, Refusal> {
-    let first = HEADER_LENGTH + PAIR_LENGTH * m;
-    if bytes.len() < first {
-        return Err(Refusal::Pairs);
-    }
-    let mut pairs = Vec::new();
-    let mut expected = first;
-    for k in 0..m {
-        let at = HEADER_LENGTH + PAIR_LENGTH * k;
-        let pair = Pair { offset: two_bytes(bytes, at), length: two_bytes(bytes, at + 2) };
-        if pair.offset != expected {
-            return Err(Refusal::Pairs);
-        }
-        expected = pair.offset + pair.length;
-        pairs.push(pair);
-    }
-    Ok(pairs)
-}
-
-/// The last pair's end; with m = 0 the table is 6 bytes.
-fn table_end(pairs: &[Pair]) -> usize {
-    match pairs.last() {
-        Some(pair) => pair.offset + pair.length,
-        None => HEADER_LENGTH,
-    }
+fn finish(bytes: &[u8], header: Header, pairs: &[Pair]) -> Result<Table, Refusal> {
+    Ok(Table {
+        n: header.n,
+        t: header.t,
+        honest: peers_of(header.honest),
+        periods: header.periods,
+        items: read_items(bytes, pairs)?,
+    })
 }
 
 /// 3 for any item, then 4 for any two.
-fn finish(bytes: &[u8], header: Header, pairs: &[Pair]) -> Result<Table, Refusal> {
+pub fn read_items(bytes: &[u8], pairs: &[Pair]) -> Result<Vec<Item>, Refusal> {
     let mut items = Vec::new();
     for pair in pairs {
-        items.push(read_item(&bytes[pair.offset..pair.offset + pair.length])?);
+        items.push(read_item(pair.text(bytes))?);
     }
     for k in 0..items.len() {
         if items[..k].contains(&items[k]) {
             return Err(Refusal::Twin);
         }
     }
-    Ok(Table {
-        n: header.n,
-        t: header.t,
-        honest: peers_of(header.honest),
-        periods: header.periods,
-        items,
-    })
+    Ok(items)
 }
 
 /// 3: length or kind wrong. Ballot number (4 bytes), kind byte, preferences.
@@ -205,21 +196,9 @@ fn peers_of(set: u16) -> BTreeSet<usize> {
     (1..=16).filter(|k| set >> (k - 1) & 1 == 1).collect()
 }
 
-/// A number of two bytes, high byte first.
-fn two_bytes(bytes: &[u8], at: usize) -> usize {
-    256 * bytes[at] as usize + bytes[at + 1] as usize
-}
-
 /// The bytes of a table, its fields in document 01's order. Nothing is checked.
 pub fn write_table(n: u8, t: u8, honest: u16, periods: u8, items: &[Vec<u8>]) -> Vec<u8> {
     let [high, low] = honest.to_be_bytes();
-    let mut bytes = vec![n, t, high, low, periods, items.len() as u8];
-    let mut offset = HEADER_LENGTH + PAIR_LENGTH * items.len();
-    for item in items {
-        bytes.extend((offset as u16).to_be_bytes());
-        bytes.extend((item.len() as u16).to_be_bytes());
-        offset += item.len();
-    }
-    bytes.extend(items.concat());
-    bytes
+    let header = vec![n, t, high, low, periods, items.len() as u8];
+    [header, write_pairs(HEADER_LENGTH, items)].concat()
 }

@@ -6,26 +6,8 @@ use common::*;
 use reference::form::Step;
 use reference::report::rehearse;
 
-const CASE_R_TABLE: [u8; 15] =
-    [0x01, 0x01, 0x00, 0x01, 0x01, 0x01, 0x00, 0x0A, 0x00, 0x05, 0x00, 0x00, 0x00, 0x07, 0x02];
-
 const CASE_R_OUTPUT: &str = "peers 1 threshold 1 honest 1 / 1 0 / 2 0 / 3 0 / 4 0 / 5 0 / 6 0 / \
     7 0 / 8 0 / 9 0 / 10 0 / db 1 0 0 1 / receipt 0 0 / board 0 0 / totals 1 1 1 / end";
-
-fn case_r_steps() -> Vec<Step> {
-    vec![
-        Step::Post { item: 0 },
-        Step::Hand { peer: 1, item: 0 },
-        Step::Sign { peer: 1, item: 0 },
-        Step::Share { peer: 1, item: 0 },
-        Step::Receipt { period: 0, item: 0 },
-        Step::Close { peer: 1 },
-        Step::Hash { peer: 1, period: 0 },
-        Step::Hear { peer: 1, entry: 0 },
-        Step::Back { peer: 1 },
-        Step::Publish { entry: 1 },
-    ]
-}
 
 fn output(input: &[u8]) -> String {
     String::from_utf8(rehearse(input)).unwrap()

@@ -18,6 +18,25 @@ pub fn cancellation(ballot: u32) -> Vec<u8> {
     [&ballot.to_be_bytes()[..], &[3]].concat()
 }
 
+/// Document 01's case R.
+pub const CASE_R_TABLE: [u8; 15] =
+    [0x01, 0x01, 0x00, 0x01, 0x01, 0x01, 0x00, 0x0A, 0x00, 0x05, 0x00, 0x00, 0x00, 0x07, 0x02];
+
+pub fn case_r_steps() -> Vec<Step> {
+    vec![
+        Step::Post { item: 0 },
+        Step::Hand { peer: 1, item: 0 },
+        Step::Sign { peer: 1, item: 0 },
+        Step::Share { peer: 1, item: 0 },
+        Step::Receipt { period: 0, item: 0 },
+        Step::Close { peer: 1 },
+        Step::Hash { peer: 1, period: 0 },
+        Step::Hear { peer: 1, entry: 0 },
+        Step::Back { peer: 1 },
+        Step::Publish { entry: 1 },
+    ]
+}
+
 /// The bytes of a table, its honest peers listed.
 pub fn table_bytes(n: u8, t: u8, honest: &[usize], periods: u8, items: &[Vec<u8>]) -> Vec<u8> {
     let set = honest.iter().fold(0, |set, k| set | 1 << (k - 1));
