@@ -13,6 +13,8 @@ pub const UNKNOWN: u8 = 10;
 pub const CLASH: u8 = 11;
 pub const SHORT: u8 = 12;
 pub const FULL: u8 = 13;
+pub const STATE: u8 = 14;
+pub const SHEET: u8 = 16;
 
 pub fn refuse_if(bad: bool, refusal: u8) -> Done {
     if bad {

@@ -1,5 +1,6 @@
 //! The rules as a hand-written engine has them: fast, and without proofs.
 //!
+//! - `texts`: pairs of offset and length, and the items' texts
 //! - `table`: the ballot table, refusals 1 to 4, clash masks
 //! - `state`: the bytes of docs/STATE.md as a struct
 //! - `valid`: row 14
@@ -8,28 +9,38 @@
 //! - `guards`: the refusals that several ops share
 //! - `advance`: the inner step, which validates nothing
 //! - `report`: the rehearsal
+//! - `sheet`: a period's board as a sheet, written and read
 
 mod advance;
 mod differ;
 mod form;
 mod guards;
 mod report;
+mod sheet;
 mod state;
 mod table;
+mod texts;
 mod valid;
 
+use guards::{refuse_if, STATE};
 pub use report::{rehearse, Run};
+pub use sheet::{check_sheet, sheet_item, write_sheet};
 use state::State;
 use table::Table;
 
 /// An answer: done, or the refusal's number.
 pub type Done = Result<(), u8>;
 
-pub fn check_table(table: &[u8]) -> u8 {
-    match Table::whole(table) {
-        Ok(_) => 0,
+/// Its number.
+fn answer(done: Done) -> u8 {
+    match done {
+        Ok(()) => 0,
         Err(refusal) => refusal,
     }
+}
+
+pub fn check_table(table: &[u8]) -> u8 {
+    answer(Table::whole(table).map(|_| ()))
 }
 
 pub fn fresh(table: &[u8], state: &mut [u8]) -> u8 {
@@ -38,23 +49,24 @@ pub fn fresh(table: &[u8], state: &mut [u8]) -> u8 {
         return refusal;
     }
     if state.len() != state::SIZE {
-        return 14;
+        return STATE;
     }
     state.fill(0);
     0
 }
 
 pub fn step(table: &[u8], state: &mut [u8], step: &[u8]) -> u8 {
-    match step_or_refuse(table, state, step) {
-        Ok(()) => 0,
-        Err(refusal) => refusal,
-    }
+    answer(step_or_refuse(table, state, step))
 }
 
 fn step_or_refuse(table: &[u8], state: &mut [u8], step: &[u8]) -> Done {
-    let table = Table::whole(table)?;
-    if state.len() != state::SIZE || !valid::is_state(&table, state) {
-        return Err(14);
-    }
+    let table = valid_table(table, state)?;
     advance::advance(&table, |item| table.clashes(item), State::over(state), step)
+}
+
+/// 1 to 4, then 14 for the state under the table.
+fn valid_table(table: &[u8], state: &[u8]) -> Result<Table, u8> {
+    let table = Table::whole(table)?;
+    refuse_if(state.len() != state::SIZE || !valid::is_state(&table, state), STATE)?;
+    Ok(table)
 }

@@ -1,6 +1,7 @@
 //! The rehearsal, from input bytes to the report's bytes.
 
 use crate::advance::advance;
+use crate::answer;
 use crate::state::{Entry, State, BOARD, SIZE};
 use crate::table::Table;
 
@@ -46,10 +47,7 @@ impl<'a> Run<'a> {
 
     /// The answer to one step.
     pub fn step(&mut self, bytes: &[u8]) -> u8 {
-        match advance(&self.table, |item| self.clashes[item], self.state, bytes) {
-            Ok(()) => 0,
-            Err(refusal) => refusal,
-        }
+        answer(advance(&self.table, |item| self.clashes[item], self.state, bytes))
     }
 
     /// The state's bytes.

@@ -1,15 +1,11 @@
 //! The ballot table: refusals 1 to 4, and which items clash.
 
-use crate::differ::all_differ;
+use crate::texts::{is_item, no_twins, read_texts, word, Texts};
 
 const LEAST: [u8; 16] = [1, 2, 3, 3, 4, 5, 5, 6, 7, 7, 8, 9, 9, 10, 11, 11];
-const HEADER: usize = 6;
-const PAIR: usize = 4;
+pub const HEADER: usize = 6;
 const VOTE: u8 = 1;
 const CANCELLATION: u8 = 3;
-
-/// The items' texts.
-type Texts<'a> = [&'a [u8]; 64];
 
 pub struct Table {
     pub n: u8,
@@ -35,27 +31,24 @@ impl Table {
     fn read(bytes: &[u8], may_end: impl Fn(usize) -> bool) -> Result<(Table, usize), u8> {
         let mut table = header(bytes)?;
         let mut texts: Texts = [&[]; 64];
-        let end = pairs(bytes, table.m, &mut texts).ok_or(2)?;
+        let end = read_texts(bytes, HEADER, table.m, &mut texts).ok_or(2)?;
         if !may_end(end) {
             return Err(2);
         }
-        table.read_items(&texts)?;
+        table.read_items(&texts[..table.m as usize])?;
         Ok((table, end))
     }
 
     /// 3 for any item, then 4 for any two.
-    fn read_items(&mut self, texts: &Texts) -> Result<(), u8> {
-        let texts = &texts[..self.m as usize];
+    fn read_items(&mut self, texts: &[&[u8]]) -> Result<(), u8> {
         for (k, text) in texts.iter().enumerate() {
-            match (text.get(4), text.len()) {
-                (Some(1), 6..=37) | (Some(2 | 3), 5) => {}
-                _ => return Err(3),
+            if !is_item(text) {
+                return Err(3);
             }
             self.ballots[k] = word(text, 0);
             self.kinds[k] = text[4];
         }
-        let twins = |i: usize, k: usize| texts[i] == texts[k];
-        if all_differ::<128>(texts.len(), |k| hash(texts[k]), twins) {
+        if no_twins(texts) {
             Ok(())
         } else {
             Err(4)
@@ -97,30 +90,4 @@ fn header(bytes: &[u8]) -> Result<Table, u8> {
         return Err(1);
     }
     Ok(Table { n, t, honest, periods, m, ballots: [0; 64], kinds: [0; 64] })
-}
-
-/// Each item's text, and where the last ends, if each begins where the one
-/// before it ends.
-fn pairs<'a>(bytes: &'a [u8], m: u8, texts: &mut Texts<'a>) -> Option<usize> {
-    let mut end = HEADER + PAIR * m as usize;
-    for (pair, text) in bytes.get(HEADER..end)?.as_chunks::<PAIR>().0.iter().zip(texts) {
-        let [a, b, c, d] = *pair;
-        let start = u16::from_be_bytes([a, b]) as usize;
-        if start != end {
-            return None;
-        }
-        end += u16::from_be_bytes([c, d]) as usize;
-        *text = bytes.get(start..end)?;
-    }
-    Some(end)
-}
-
-fn word(bytes: &[u8], at: usize) -> u32 {
-    u32::from_be_bytes(bytes[at..at + 4].try_into().unwrap())
-}
-
-/// From the ballot number, the last four bytes and the length.
-fn hash(item: &[u8]) -> u64 {
-    let (first, last) = (word(item, 0), word(item, item.len() - 4));
-    ((first as u64) << 32 | last as u64) ^ (item.len() as u64) << 48
 }

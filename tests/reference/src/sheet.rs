@@ -21,6 +21,13 @@ pub struct Sheet {
     pub pairs: Vec<Pair>,
 }
 
+impl Sheet {
+    /// Where an item stands. 6: a number of the count or above.
+    pub fn place(&self, item: usize) -> Result<Pair, Refusal> {
+        self.pairs.get(item).copied().ok_or(Refusal::Name)
+    }
+}
+
 /// The bytes of a sheet. Nothing is checked.
 pub fn write_sheet(period: u8, texts: &[Vec<u8>]) -> Vec<u8> {
     [vec![period, texts.len() as u8], write_pairs(HEAD_LENGTH, texts)].concat()
@@ -56,10 +63,9 @@ pub fn read_sheet(bytes: &[u8]) -> Result<Sheet, Refusal> {
     Ok(Sheet { period, items, pairs })
 }
 
-/// Where an item stands in a sheet. 16, then 6: a number of the count or above.
+/// Where an item stands in bytes that may be a sheet: 16, then 6.
 pub fn item_of_sheet(bytes: &[u8], item: usize) -> Result<Pair, Refusal> {
-    let sheet = read_sheet(bytes)?;
-    sheet.pairs.get(item).copied().ok_or(Refusal::Name)
+    read_sheet(bytes)?.place(item)
 }
 
 /// The whole output of the program `sheet`: its input is a period in one byte,
