@@ -3,11 +3,15 @@
 //!
 //! - `layout`: the state's bytes, from docs/STATE.md
 //! - `row14`: which bytes are a state, from document 01's row 14
+//! - `lent`: bytes that are lent, and those around them
 //! - `pair`: engines and reference on the same calls
+//! - `sheets`: the same for sheets, written and read
 
 pub mod layout;
+pub mod lent;
 pub mod pair;
 pub mod row14;
+pub mod sheets;
 
 /// An engine over lent bytes.
 #[derive(Clone, Copy)]
@@ -21,7 +25,16 @@ pub struct Engine {
     pub step: fn(&[u8], &mut [u8], &[u8]) -> u8,
     /// Input, state and room for the report: the report's length.
     pub rehearse: fn(&[u8], &mut [u8], &mut [u8]) -> usize,
+    /// Table, state, period, room for the sheet, and for its length: the answer.
+    pub write_sheet: WriteSheet,
+    /// Sheet: the answer.
+    pub check_sheet: fn(&[u8]) -> u8,
+    /// Sheet, item, and room for the item's offset and length: the answer.
+    pub sheet_item: fn(&[u8], u8, &mut usize, &mut usize) -> u8,
 }
+
+/// What writes a sheet.
+pub type WriteSheet = fn(&[u8], &[u8], u8, &mut [u8], &mut usize) -> u8;
 
 pub const PROVED: Engine = Engine {
     name: "proved",
@@ -29,6 +42,9 @@ pub const PROVED: Engine = Engine {
     fresh: board_fresh,
     step: board_step,
     rehearse: board_rehearse,
+    write_sheet: board_write_sheet,
+    check_sheet: board_check_sheet,
+    sheet_item: board_sheet_item,
 };
 
 pub const PLAIN: Engine = Engine {
@@ -37,6 +53,9 @@ pub const PLAIN: Engine = Engine {
     fresh: plain::fresh,
     step: plain::step,
     rehearse: plain::rehearse,
+    write_sheet: plain::write_sheet,
+    check_sheet: plain::check_sheet,
+    sheet_item: plain::sheet_item,
 };
 
 /// The engines that are held to the reference.
@@ -64,6 +83,25 @@ mod c {
             out: *mut u8,
             out_length: usize,
         ) -> usize;
+        pub fn board_sheet_most() -> usize;
+        pub fn board_write_sheet(
+            table: *const u8,
+            table_length: usize,
+            state: *const u8,
+            state_length: usize,
+            period: u8,
+            sheet: *mut u8,
+            sheet_length: usize,
+            length: *mut usize,
+        ) -> u8;
+        pub fn board_check_sheet(sheet: *const u8, n: usize) -> u8;
+        pub fn board_sheet_item(
+            sheet: *const u8,
+            sheet_length: usize,
+            item: u8,
+            offset: *mut usize,
+            length: *mut usize,
+        ) -> u8;
     }
 }
 
@@ -98,4 +136,33 @@ pub fn board_rehearse(input: &[u8], state: &mut [u8], out: &mut [u8]) -> usize {
     let (out, room) = (out.as_mut_ptr(), out.len());
     // Each pointer goes with its slice's length.
     unsafe { c::board_rehearse(input.as_ptr(), input.len(), state, length, out, room) }
+}
+
+pub fn board_sheet_most() -> usize {
+    // It takes nothing and reads no memory.
+    unsafe { c::board_sheet_most() }
+}
+
+pub fn board_write_sheet(
+    table: &[u8],
+    state: &[u8],
+    period: u8,
+    sheet: &mut [u8],
+    length: &mut usize,
+) -> u8 {
+    let (table, n) = (table.as_ptr(), table.len());
+    let (state, m) = (state.as_ptr(), state.len());
+    let (sheet, room) = (sheet.as_mut_ptr(), sheet.len());
+    // Each pointer goes with its slice's length, and the last is a number's.
+    unsafe { c::board_write_sheet(table, n, state, m, period, sheet, room, length) }
+}
+
+pub fn board_check_sheet(sheet: &[u8]) -> u8 {
+    // The pointer goes with its slice's length.
+    unsafe { c::board_check_sheet(sheet.as_ptr(), sheet.len()) }
+}
+
+pub fn board_sheet_item(sheet: &[u8], item: u8, offset: &mut usize, length: &mut usize) -> u8 {
+    // The first pointer goes with its slice's length, the others are numbers'.
+    unsafe { c::board_sheet_item(sheet.as_ptr(), sheet.len(), item, offset, length) }
 }

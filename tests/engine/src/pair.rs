@@ -2,7 +2,8 @@
 
 use crate::layout::{encode, LENGTH};
 use crate::{Engine, ENGINES};
-use reference::state::State;
+use inputs::random::Random;
+use reference::state::{Entry, State};
 use reference::table::{read_table, Table};
 
 /// A table with the reference's state on it, and the bytes of that state.
@@ -34,6 +35,23 @@ impl Pair {
             assert!(bytes == buffer, "{name}: another fresh state");
         }
         Pair { text, table, state, buffer }
+    }
+
+    /// Entries of every kind, as no steps may lead to, up to so many or a full
+    /// bag.
+    pub fn stuff(&mut self, random: &mut Random, most: usize) {
+        for _ in 0..random.between(1, most) {
+            let signer = random.between(1, self.table.n);
+            let period = random.below(self.table.periods);
+            let bits = random.bits();
+            let board = (0..self.table.m()).filter(|i| bits >> i & 1 == 1).collect();
+            let _full = self.state.enter(match random.below(3) {
+                0 => Entry::Hash { signer, period, board },
+                1 => Entry::Backing { signer, period, board },
+                _ => Entry::Board { period, board },
+            });
+        }
+        self.buffer = encode(&self.state);
     }
 
     /// One step call on all: the same answer and the same bytes after it.

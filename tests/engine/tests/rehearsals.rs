@@ -2,6 +2,7 @@
 //! fresh and step lead to.
 
 use engine::layout::{encode, LENGTH};
+use engine::lent::Lent;
 use engine::{board_report_most, Engine, ENGINES, PLAIN};
 use inputs::answers::Answers;
 use inputs::kinds::{rehearsal, round};
@@ -11,29 +12,6 @@ use reference::report::rehearse;
 
 /// So many rounds, each of all kinds.
 const ROUNDS: usize = 10;
-
-/// A part of some bytes, lent; what is around it must stay.
-#[derive(Clone, PartialEq)]
-struct Lent(Vec<u8>);
-
-const AROUND: usize = 16;
-
-impl Lent {
-    fn random(random: &mut Random, length: usize) -> Lent {
-        Lent(random.bytes(AROUND + length + AROUND))
-    }
-
-    fn part(&mut self) -> &mut [u8] {
-        let end = self.0.len() - AROUND;
-        &mut self.0[AROUND..end]
-    }
-
-    /// Writes as many of the bytes as there is room for.
-    fn write(&mut self, bytes: &[u8]) {
-        let fits = self.part().len().min(bytes.len());
-        self.part()[..fits].copy_from_slice(&bytes[..fits]);
-    }
-}
 
 /// What the reference has for an input.
 struct Expected {
@@ -70,16 +48,11 @@ fn call(
     out_after.write(report);
     let length = report.len();
     let answer = (engine.rehearse)(input, state.part(), out.part());
-    let place = |x: &Lent, y: &Lent| (0..x.0.len()).find(|at| x.0[*at] != y.0[*at]);
     if answer != length {
-        Err(format!("length {answer}, not {length}"))
-    } else if let Some(at) = place(&out, &out_after) {
-        Err(format!("out, of {room} bytes: byte {}", at as isize - AROUND as isize))
-    } else if let Some(at) = place(&state, &state_after) {
-        Err(format!("state, of {state_length} bytes: byte {}", at as isize - AROUND as isize))
-    } else {
-        Ok(())
+        return Err(format!("length {answer}, not {length}"));
     }
+    out.compare(&out_after).map_err(|wrong| format!("out, {wrong}"))?;
+    state.compare(&state_after).map_err(|wrong| format!("state, {wrong}"))
 }
 
 /// The state that fresh and a step call for each step lead to.

@@ -4,19 +4,22 @@
 use engine::layout::*;
 use engine::pair::{Call, Pair};
 use engine::row14::is_state;
+use engine::sheets::Writing;
 use engine::ENGINES;
 use inputs::answers::{Answers, ROWS};
 use inputs::random::{run_seed, Random};
 use inputs::steps::random_steps;
 use inputs::tables::random_table;
-use reference::state::Entry;
+use std::collections::BTreeMap;
 
-/// Verdicts, and the answers of the steps after a damage that passes.
+/// Verdicts, the answers of the steps after a damage that passes, and those of
+/// the writer of sheets.
 #[derive(Default)]
 struct Seen {
     refused: [usize; PARTS.len()],
     passed: [usize; PARTS.len()],
     answers: Answers,
+    sheets: BTreeMap<u8, usize>,
 }
 
 /// The parts of the state: from one of these bytes to the next.
@@ -41,22 +44,6 @@ fn place(random: &mut Random, pair: &Pair, part: usize) -> usize {
     let near = used + random.below(2);
     let anywhere = random.below(to - from);
     (from + [near, near, near, anywhere][random.below(4)]).min(to - 1)
-}
-
-/// Entries of every kind, as no steps may lead to, in a full or fuller bag.
-fn stuff(random: &mut Random, pair: &mut Pair) {
-    let m = pair.table.m();
-    for _ in 0..random.between(1, 800) {
-        let (signer, period) = (random.between(1, pair.table.n), random.below(pair.table.periods));
-        let bits = random.bits();
-        let board = (0..m).filter(|i| bits >> i & 1 == 1).collect();
-        let _full = pair.state.enter(match random.below(3) {
-            0 => Entry::Hash { signer, period, board },
-            1 => Entry::Backing { signer, period, board },
-            _ => Entry::Board { period, board },
-        });
-    }
-    pair.buffer = encode(&pair.state);
 }
 
 /// A byte that is likely to be in range, or just outside it.
@@ -92,6 +79,11 @@ fn damage(random: &mut Random, pair: &Pair, bytes: &mut [u8]) -> usize {
 fn judge(random: &mut Random, pair: &Pair, seen: &mut Seen) {
     let mut bytes = pair.buffer.clone();
     let part = damage(random, pair, &mut bytes);
+    if random.once_in(8) {
+        let period = random.below(pair.table.periods) as u8;
+        let writing = Writing { table: &pair.text, state: &bytes, period };
+        *seen.sheets.entry(writing.call(random, 3_000)).or_default() += 1;
+    }
     if is_state(&pair.table, &bytes) {
         seen.passed[part] += 1;
         return follow(random, pair, bytes, seen);
@@ -126,7 +118,7 @@ fn same_verdicts() {
         let mut pair = Pair::fresh(random_table(&mut random, [3, 6, 16][number % 3]));
         for round in 0..100 {
             if round == 50 {
-                stuff(&mut random, &mut pair);
+                pair.stuff(&mut random, 800);
                 full += (pair.state.bag.len() == 256) as usize;
             }
             for step in random_steps(&mut random, &pair.table, &pair.state) {
@@ -136,8 +128,10 @@ fn same_verdicts() {
         }
     }
     println!("parts {PARTS:?}\nrefused {:?}\npassed {:?}", seen.refused, seen.passed);
+    println!("answers to the writer of sheets {:?}", seen.sheets);
     println!("{full} full bags; answers after passing\n{}", seen.answers);
     assert!(seen.refused.iter().chain(&seen.passed).all(|times| *times > 50));
+    assert!([0, 10, 14].iter().all(|answer| seen.sheets[answer] > 50));
     let answers = ROWS.iter().flat_map(|row| row.answers);
     assert!(answers.into_iter().all(|answer| seen.answers.times(*answer) > 50) && full > 10);
 }

@@ -13,6 +13,7 @@
 //!   those that are refused
 //! - `kinds`: every kind of rehearsal
 //! - `answers`: which answers the steps got
+//! - `sheets`: valid sheets, damaged ones, and other bytes
 //! - `stored`: the rehearsals that are stored, with their reports
 
 pub mod answers;
@@ -26,6 +27,7 @@ pub mod protocol;
 pub mod random;
 pub mod rehearsed;
 mod runs;
+pub mod sheets;
 pub mod steps;
 pub mod stored;
 pub mod tables;

@@ -65,7 +65,7 @@ fn threshold(random: &mut Random, n: usize) -> usize {
 }
 
 /// Different items, of few ballot numbers.
-fn random_items(random: &mut Random, m: usize) -> Vec<Vec<u8>> {
+pub fn random_items(random: &mut Random, m: usize) -> Vec<Vec<u8>> {
     let mut items: Vec<Vec<u8>> = Vec::new();
     while items.len() < m {
         let mut item = (random.below(1 + m / 3) as u32).to_be_bytes().to_vec();
@@ -95,17 +95,25 @@ pub fn damaged_table(random: &mut Random) -> Vec<u8> {
         3 => table[random.below(6)] = random.below(20) as u8,
         4 => table[at] = table[at].wrapping_add([1, 255][random.below(2)]),
         5 => table[at] = random.bits() as u8,
-        6 => copy_item(random, &mut table),
-        7 => move_end(random, &mut table),
+        6 => copy_item(random, &mut table, HEAD),
+        7 => move_end(random, &mut table, HEAD),
         8 => table = with_odd_item(random),
         _ => {}
     }
     table
 }
 
+/// The bytes before the pairs, of which the last is the number of items.
+const HEAD: usize = 6;
+
 /// The place of pair k's offset, and of its length two bytes on.
 pub fn pair_at(k: usize) -> usize {
-    6 + 4 * k
+    pair_behind(HEAD, k)
+}
+
+/// The same behind a head of so many bytes.
+pub fn pair_behind(head: usize, k: usize) -> usize {
+    head + 4 * k
 }
 
 /// A number of two bytes, high byte first.
@@ -113,44 +121,51 @@ pub fn number(table: &[u8], at: usize) -> usize {
     256 * table[at] as usize + table[at + 1] as usize
 }
 
+/// Adds to a number of two bytes.
+pub fn add(bytes: &mut [u8], at: usize, by: isize) {
+    let sum = (number(bytes, at) as u16).wrapping_add(by as u16);
+    bytes[at..at + 2].copy_from_slice(&sum.to_be_bytes());
+}
+
 /// Writes the bytes of an item over another, as many as there is room for.
-fn copy_item(random: &mut Random, table: &mut [u8]) {
-    let m = table[5] as usize;
+pub fn copy_item(random: &mut Random, bytes: &mut [u8], head: usize) {
+    let m = bytes[head - 1] as usize;
     if m > 0 {
-        let pairs = [random.below(m), random.below(m)].map(pair_at);
+        let pairs = [random.below(m), random.below(m)].map(|k| pair_behind(head, k));
         let [(from, length), (to, room)] =
-            pairs.map(|at| (number(table, at), number(table, at + 2)));
-        table.copy_within(from..from + length.min(room), to);
+            pairs.map(|at| (number(bytes, at), number(bytes, at + 2)));
+        bytes.copy_within(from..from + length.min(room), to);
     }
 }
 
 /// Moves the end of an item by a byte; the next one, if any, begins there.
-fn move_end(random: &mut Random, table: &mut [u8]) {
-    let m = table[5] as usize;
+pub fn move_end(random: &mut Random, bytes: &mut [u8], head: usize) {
+    let m = bytes[head - 1] as usize;
     let k = random.below(m);
     let by = [1, -1][random.below(2)];
-    let mut add = |at: usize, by: i16| {
-        let moved = (number(table, at) as u16).wrapping_add_signed(by);
-        table[at..at + 2].copy_from_slice(&moved.to_be_bytes());
-    };
     if k < m {
-        add(pair_at(k) + 2, by);
+        add(bytes, pair_behind(head, k) + 2, by);
     }
     if k + 1 < m {
-        add(pair_at(k + 1), by);
-        add(pair_at(k + 1) + 2, -by);
+        add(bytes, pair_behind(head, k + 1), by);
+        add(bytes, pair_behind(head, k + 1) + 2, -by);
     }
 }
 
-/// A table with an item of any length up to 40 and any small kind.
+/// A table with an odd item.
 fn with_odd_item(random: &mut Random) -> Vec<u8> {
     let m = random.between(1, 8);
     let mut items = random_items(random, m);
+    items[random.below(m)] = odd_item(random);
+    write_table(3, 3, 7, 2, &items)
+}
+
+/// Of any length up to 40 and any small kind.
+pub fn odd_item(random: &mut Random) -> Vec<u8> {
     let length = [random.below(41), 5, 6, 37, 38][random.below(5)];
     let mut item = random.bytes(length);
     if length > 4 {
         item[4] = random.below(5) as u8;
     }
-    items[random.below(m)] = item;
-    write_table(3, 3, 7, 2, &items)
+    item
 }
