@@ -1,10 +1,13 @@
 //! That both engines do on the inputs what the reference does, before anything
 //! is timed. The gate compares them on many more.
 
+use crate::shown::Shown;
 use crate::OUT;
 use engine::layout::{encode, LENGTH};
 use engine::pair::Pair;
+use engine::sheets::{Reading, Writing};
 use engine::{Engine, ENGINES};
+use inputs::random::Random;
 use inputs::rehearsed::Rehearsed;
 use reference::report::rehearse;
 use std::path::Path;
@@ -16,7 +19,22 @@ pub fn input(bytes: &[u8]) -> Vec<u8> {
     let mut pair = Pair::fresh(bytes[..outcome.end].to_vec());
     rehearsed.calls().for_each(|(step, answer)| assert_eq!(pair.call(step), answer));
     report(bytes, &rehearse(bytes), Some(encode(&outcome.state)));
+    sheet(&Shown::over(&bytes[..outcome.end], bytes));
     outcome.answers.clone()
+}
+
+/// The sheet that is measured: each engine writes it, and reads its 64 items.
+fn sheet(shown: &Shown) {
+    let Shown { table, state, period, sheet, .. } = shown;
+    let writing = Writing { table, state, period: *period };
+    let expected = writing.expected(sheet.len());
+    assert!(expected.as_ref() == Ok(sheet) && sheet[1] == 64, "another sheet");
+    let (random, items) = (&mut Random::new(1, 0), Vec::from_iter(0..=255));
+    for engine in ENGINES {
+        let written = writing.compare(&engine, random, sheet.len(), &expected);
+        let read = Reading::of(sheet).compare(&engine, random, &items);
+        written.and(read).unwrap_or_else(|wrong| panic!("{}: {wrong}", engine.name));
+    }
 }
 
 /// The stored reports of the cases; how many there are.

@@ -12,6 +12,7 @@ mod check;
 mod engines;
 mod measure;
 mod ops;
+mod shown;
 
 use inputs::answers::ROWS;
 use inputs::protocol::PROTOCOLS;

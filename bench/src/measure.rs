@@ -1,6 +1,7 @@
-//! The three calls measured: times in one run side by side, and rounds of one
+//! The calls measured: times in one run side by side, and rounds of one
 //! engine alone for a tool that counts instructions.
 
+use crate::shown::Shown;
 use crate::{parts, OUT};
 use engine::layout::LENGTH;
 use engine::{Engine, PLAIN, PROVED};
@@ -8,13 +9,13 @@ use std::hint::black_box;
 use std::time::Instant;
 
 /// The calls, in the order of the tables.
-pub const CALLS: [&str; 3] = ["rehearse", "step", "fresh"];
+pub const CALLS: [&str; 5] = ["rehearse", "step", "fresh", "write_sheet", "check_sheet"];
 
 /// How often each is timed; the best time counts.
 const ROUNDS: usize = 40;
 
-/// Fresh calls of a round.
-const FRESH: usize = 500;
+/// The same call so many times in a round.
+const TIMES: usize = 500;
 
 /// An input with buffers for its calls.
 pub struct Bench<'a> {
@@ -23,12 +24,14 @@ pub struct Bench<'a> {
     steps: Vec<&'a [u8]>,
     state: Vec<u8>,
     out: Vec<u8>,
+    shown: Shown<'a>,
 }
 
 impl<'a> Bench<'a> {
     pub fn over(input: &'a [u8]) -> Bench<'a> {
         let (table, steps) = parts(input);
-        Bench { input, table, steps, state: vec![0; LENGTH], out: vec![0; OUT] }
+        let (state, out) = (vec![0; LENGTH], vec![0; OUT]);
+        Bench { input, table, steps, state, out, shown: Shown::over(table, input) }
     }
 
     /// One round of a call; how many calls (or, of a rehearsal, steps) it had.
@@ -45,12 +48,9 @@ impl<'a> Bench<'a> {
                 }
                 self.steps.len()
             }
-            _ => {
-                for _ in 0..FRESH {
-                    black_box((engine.fresh)(self.table, &mut self.state));
-                }
-                FRESH
-            }
+            "fresh" => repeated(|| (engine.fresh)(self.table, &mut self.state)),
+            "write_sheet" => repeated(|| self.shown.write(engine)),
+            _ => repeated(|| self.shown.check(engine)),
         }
     }
 
@@ -67,4 +67,10 @@ impl<'a> Bench<'a> {
         }
         best
     }
+}
+
+/// The same call again and again; how often.
+fn repeated<T>(mut call: impl FnMut() -> T) -> usize {
+    (0..TIMES).for_each(|_| drop(black_box(call())));
+    TIMES
 }
