@@ -1,4 +1,4 @@
-//! Random inputs for every engine: tables, steps and whole rehearsals.
+//! Random inputs for every engine: tables, steps, sheets and whole rehearsals.
 //!
 //! - `random`: a small generator, and the seed of a run
 //! - `tables`: valid tables, and damaged ones
