@@ -2,6 +2,7 @@
 //! grammar.
 //!
 //! - `words`, `table`, `steps`: the lines of the text, and their bytes
+//! - `pairs`: offsets and lengths, and the texts of items that they mark out
 //! - `written`: a rehearsal read from text, with the place of each thing
 //! - `names`: names that a table does not have
 //! - `reasons`: why a step got its answer, and what it brought
@@ -13,6 +14,7 @@
 
 pub mod explain;
 mod names;
+mod pairs;
 pub mod reasons;
 mod steps;
 mod table;

@@ -2,12 +2,12 @@
 //! the text; they follow from the items.
 
 use crate::hexadecimal;
+use crate::pairs::{Pairs, PAIR_LENGTH};
 use crate::words::Line;
 
 pub const HEADER_FORM: &str = "peers N threshold T honest K .. periods P";
 
-const HEADER_LENGTH: usize = 6;
-const PAIR_LENGTH: usize = 4;
+pub const HEADER_LENGTH: usize = 6;
 /// The most that two bytes hold.
 const TWO_BYTES: usize = 65_535;
 /// The most items that the header's byte can count.
@@ -92,34 +92,18 @@ pub fn lay_out(header: Header, items: &[Item]) -> Result<Vec<u8>, String> {
 
 /// The lines of the table at the front of the input, and where it ends.
 pub fn write_table(input: &[u8]) -> Result<(Vec<String>, usize), String> {
+    let start = "no text for this table";
     if input.len() < HEADER_LENGTH {
-        return Err(format!("no text for this table: header of {} bytes, not 6", input.len()));
+        return Err(format!("{start}: header of {} bytes, not {HEADER_LENGTH}", input.len()));
     }
-    let mut lines = vec![write_header(input)];
-    let m = input[5] as usize;
-    let mut end = HEADER_LENGTH + PAIR_LENGTH * m;
-    if input.len() < end {
-        return Err(format!("no text for this table: {m} pairs cut short"));
-    }
-    for k in 0..m {
-        let at = HEADER_LENGTH + PAIR_LENGTH * k;
-        let (offset, length) = (two_bytes(input, at), two_bytes(input, at + 2));
-        if offset != end {
-            let place = format!("pair {k} has offset {offset}, not {end}");
-            return Err(format!("no text for this table: {place}"));
-        }
-        end = offset + length;
-        if input.len() < end {
-            let place = format!("item {k} ends at {end}, the input at {}", input.len());
-            return Err(format!("no text for this table: {place}"));
-        }
-        lines.push(write_item(&input[offset..end]));
-    }
-    Ok((lines, end))
+    let texts = Pairs::of_input(input).texts();
+    let (texts, end) = texts.map_err(|fault| format!("{start}: {}", fault.fact))?;
+    let items = texts.into_iter().map(write_item);
+    Ok((std::iter::once(write_header(input)).chain(items).collect(), end))
 }
 
 fn write_header(input: &[u8]) -> String {
-    let set = two_bytes(input, 2);
+    let set = u16::from_be_bytes([input[2], input[3]]);
     let peers = (1..=16).filter(|k| set >> (k - 1) & 1 == 1);
     let honest: String = peers.map(|k| format!(" {k}")).collect();
     format!("peers {} threshold {} honest{honest} periods {}", input[0], input[1], input[4])
@@ -136,9 +120,4 @@ fn write_item(item: &[u8]) -> String {
         (3, 5) => format!("cancel {ballot}"),
         _ => format!("item{}", hexadecimal(item)),
     }
-}
-
-/// A number of two bytes, high byte first.
-fn two_bytes(bytes: &[u8], at: usize) -> usize {
-    256 * bytes[at] as usize + bytes[at + 1] as usize
 }

@@ -76,9 +76,13 @@ fn tables_without_text() {
     let error = |input: &[u8]| text(input).unwrap_err();
     let start = "no text for this table";
     assert_eq!(error(&[1, 1]), format!("{start}: header of 2 bytes, not 6"));
-    assert_eq!(error(&[1, 1, 0, 1, 1, 2, 0, 14]), format!("{start}: 2 pairs cut short"));
+    let short = "the pairs of 2 items end at byte 14, but the input at byte 8";
+    assert_eq!(error(&[1, 1, 0, 1, 1, 2, 0, 14]), format!("{start}: {short}"));
     let offset = [1, 1, 0, 1, 1, 1, 0, 11, 0, 0];
-    assert_eq!(error(&offset), format!("{start}: pair 0 has offset 11, not 10"));
+    assert_eq!(
+        error(&offset),
+        format!("{start}: item 0 has offset 11, but the pairs end at byte 10")
+    );
     let end = [1, 1, 0, 1, 1, 1, 0, 10, 0, 5, 0];
-    assert_eq!(error(&end), format!("{start}: item 0 ends at 15, the input at 11"));
+    assert_eq!(error(&end), format!("{start}: item 0 ends at byte 15, but the input at byte 11"));
 }

@@ -1,12 +1,12 @@
 //! Why a table or an input is refused, told from its bytes.
 
+use super::items::{no_item, twin};
 use super::phrases::{comma_list, count};
+use crate::pairs::Pairs;
+use crate::table::HEADER_LENGTH;
 use reference::report::INPUT_SIZE;
 use reference::table::LEAST_THRESHOLD;
 use reference::Refusal;
-
-const HEADER_LENGTH: usize = 6;
-const PAIR_LENGTH: usize = 4;
 
 /// What is wrong with a table or an input.
 pub struct Fault {
@@ -29,7 +29,7 @@ pub fn why(input: &[u8], refusal: Refusal) -> Option<Fault> {
         Refusal::Input => too_long(input),
         Refusal::Header => header(input),
         Refusal::Pairs => pairs(input),
-        Refusal::Item => texts(input).into_iter().enumerate().find_map(|(k, text)| item(k, text)),
+        Refusal::Item => item(input),
         Refusal::Twin => twins(input),
         // No other refusal is of an input.
         _ => None,
@@ -85,67 +85,26 @@ fn honest(n: usize, set: u16) -> Option<String> {
     (!beyond.is_empty()).then(told)
 }
 
-/// Offset and length of pair k.
-fn pair(input: &[u8], k: usize) -> (usize, usize) {
-    let at = HEADER_LENGTH + PAIR_LENGTH * k;
-    let number = |at: usize| u16::from_be_bytes([input[at], input[at + 1]]) as usize;
-    (number(at), number(at + 2))
-}
-
 /// 2: cut short, or an offset that is not the end before it.
 fn pairs(input: &[u8]) -> Option<Fault> {
-    let (m, length) = (input[5] as usize, input.len());
-    let mut end = HEADER_LENGTH + PAIR_LENGTH * m;
-    if length < end {
-        let told = format!("the pairs of {} end at byte {end}", count(m, "item"));
-        return fault(Place::Header, format!("{told}, but the input at byte {length}"));
-    }
-    for k in 0..m {
-        let (offset, size) = pair(input, k);
-        if offset != end {
-            let before =
-                if k == 0 { "the pairs end".into() } else { format!("item {} ends", k - 1) };
-            let told = format!("item {k} has offset {offset}, but {before} at byte {end}");
-            return fault(Place::Item(k), told);
-        }
-        end = offset + size;
-    }
-    let told = || format!("item {} ends at byte {end}, but the input at byte {length}", m - 1);
-    (m > 0 && end > length).then(|| Fault { place: Place::Item(m - 1), fact: told() })
+    let wrong = Pairs::of_input(input).texts().err()?;
+    fault(wrong.item.map_or(Place::Header, Place::Item), wrong.fact)
 }
 
 /// The texts of the items, where header and pairs are in order.
-fn texts(input: &[u8]) -> Vec<&[u8]> {
-    let pairs = (0..input[5] as usize).map(|k| pair(input, k));
-    pairs.map(|(offset, length)| &input[offset..offset + length]).collect()
+fn texts(input: &[u8]) -> Option<Vec<&[u8]>> {
+    Some(Pairs::of_input(input).texts().ok()?.0)
 }
 
 /// 3: length or kind wrong.
-fn item(k: usize, text: &[u8]) -> Option<Fault> {
-    let start = format!("item {k}");
-    let more = || count(text.len() - 5, "byte");
-    let told = match (text.get(4), text.len()) {
-        (None, length) => {
-            let least = "but an item has at least 5: ballot number and kind";
-            format!("{start} has {}, {least}", count(length, "byte"))
-        }
-        (Some(1), 6..=37) | (Some(2 | 3), 5) => return None,
-        (Some(1), _) => format!("{start} is a vote with {} of preferences, not 1 to 32", more()),
-        (Some(2), _) => format!("{start} is an audit with {} after its kind, not none", more()),
-        (Some(3), _) => {
-            format!("{start} is a cancellation with {} after its kind, not none", more())
-        }
-        (Some(kind), _) => {
-            format!("{start} has kind {kind}, not 1 (vote), 2 (audit) or 3 (cancellation)")
-        }
-    };
-    fault(Place::Item(k), told)
+fn item(input: &[u8]) -> Option<Fault> {
+    let fact_of = |(k, text)| Some((k, no_item(k, text)?));
+    let (k, fact) = texts(input)?.into_iter().enumerate().find_map(fact_of)?;
+    fault(Place::Item(k), fact)
 }
 
 /// 4: two items the same.
 fn twins(input: &[u8]) -> Option<Fault> {
-    let texts = texts(input);
-    let twin = |k: usize| texts[..k].iter().position(|text| *text == texts[k]);
-    let (k, first) = (0..texts.len()).find_map(|k| Some((k, twin(k)?)))?;
-    fault(Place::Item(k), format!("items {first} and {k} are the same"))
+    let (k, fact) = twin(&texts(input)?)?;
+    fault(Place::Item(k), fact)
 }

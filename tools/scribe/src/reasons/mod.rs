@@ -3,11 +3,13 @@
 //!
 //! - `phrases`: the words for numbers, lists, items and entries
 //! - `quorum`: peers beside the t that are needed
+//! - `items`: what is wrong with the texts of items
 //! - `input`: why a table or an input is refused
 //! - `refusals`: why a step is refused; `unknown` and `short`: with 10 and 12
 //! - `news`: what a step has changed
 
 pub mod input;
+pub(crate) mod items;
 mod news;
 pub(crate) mod phrases;
 mod quorum;
