@@ -1,5 +1,5 @@
-//! A rehearsal as text, as bytes, and told step by step. README.md has the
-//! grammar.
+//! A rehearsal as text, as bytes, and told step by step; a sheet as text.
+//! README.md has the grammar.
 //!
 //! - `words`, `table`, `steps`: the lines of the text, and their bytes
 //! - `pairs`: offsets and lengths, and the texts of items that they mark out
@@ -7,6 +7,7 @@
 //! - `names`: names that a table does not have
 //! - `reasons`: why a step got its answer, and what it brought
 //! - `explain`: the telling, line by line
+//! - `sheet`: a sheet's lines, or what makes bytes no sheet
 //!
 //! Nothing is judged on the way from text to bytes but what cannot be laid out
 //! at all: a threshold out of range, a vote without preferences or a peer that
@@ -16,11 +17,13 @@ pub mod explain;
 mod names;
 mod pairs;
 pub mod reasons;
+mod sheet;
 mod steps;
 mod table;
 mod words;
 mod written;
 
+pub use sheet::sheet;
 pub use written::{read, Source, Written};
 
 /// The bytes of a rehearsal written as text. An error names its line.

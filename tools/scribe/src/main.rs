@@ -1,5 +1,5 @@
-//! `scribe bytes`, `scribe text` and `scribe explain`, from standard input to
-//! standard output.
+//! `scribe bytes`, `scribe text`, `scribe explain` and `scribe sheet`, from
+//! standard input to standard output.
 
 use scribe::explain::{explain_bytes, explain_text, is_text, Which};
 use std::io::{self, Read, Write};
@@ -7,7 +7,8 @@ use std::process::ExitCode;
 
 const USAGE: &str = "usage: scribe bytes < case.txt > case.bin, \
     scribe text < case.bin > case.txt, \
-    or scribe explain [--last | --refused] [--text | --bytes] < case";
+    scribe explain [--last | --refused] [--text | --bytes] < case, \
+    or scribe sheet < board.sheet";
 
 fn main() -> ExitCode {
     match run() {
@@ -26,6 +27,7 @@ fn run() -> Result<Vec<u8>, String> {
         ["bytes"] => bytes(),
         ["text"] => Ok(scribe::text(&input()?)?.into_bytes()),
         ["explain", ref flags @ ..] => explain(flags),
+        ["sheet"] => Ok(scribe::sheet(&input()?)?.into_bytes()),
         _ => Err(USAGE.to_string()),
     }
 }

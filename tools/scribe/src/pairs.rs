@@ -1,6 +1,8 @@
-//! Pairs of offset and length, and the texts of items that they mark out.
+//! Pairs of offset and length, and the texts of items that they mark out: in a
+//! table behind its header, in a sheet behind its two bytes.
 
 use crate::reasons::phrases::count;
+use crate::sheet::HEAD_LENGTH;
 use crate::table::HEADER_LENGTH;
 
 pub const PAIR_LENGTH: usize = 4;
@@ -25,6 +27,11 @@ impl<'a> Pairs<'a> {
     /// Of a table at the front of an input that has a header.
     pub fn of_input(bytes: &'a [u8]) -> Pairs<'a> {
         Pairs { bytes, whole: "input", start: HEADER_LENGTH, count: bytes[5] as usize }
+    }
+
+    /// Of a sheet that has a period and a count.
+    pub fn of_sheet(bytes: &'a [u8]) -> Pairs<'a> {
+        Pairs { bytes, whole: "sheet", start: HEAD_LENGTH, count: bytes[1] as usize }
     }
 
     /// The texts, one behind the other, and where the last one ends; or what is

@@ -109,7 +109,8 @@ fn write_header(input: &[u8]) -> String {
     format!("peers {} threshold {} honest{honest} periods {}", input[0], input[1], input[4])
 }
 
-fn write_item(item: &[u8]) -> String {
+/// The line of an item, or of bytes that are none.
+pub fn write_item(item: &[u8]) -> String {
     if item.len() < 5 {
         return format!("item{}", hexadecimal(item));
     }

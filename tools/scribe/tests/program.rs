@@ -64,7 +64,9 @@ fn the_program() {
     assert_eq!((good.status.code(), good.stdout), (Some(0), vec![1, 1, 0, 1, 1, 0]));
     let back = program(&["text"], &[1, 1, 0, 1, 1, 0]);
     assert_eq!((back.status.code(), back.stdout), (Some(0), format!("{HEADER}\n").into_bytes()));
-    let failures: [(&[&str], &[u8], &str); 9] = [
+    let sheet = output(&["sheet"], &[1, 1, 0, 6, 0, 5, 0, 0, 0, 7, 2]);
+    assert_eq!(sheet, ("period 1\naudit 7\n".to_string(), String::new()));
+    let failures: [(&[&str], &[u8], &str); 11] = [
         (&["bytes"], b"peers", "scribe: line 1: expected a number of peers"),
         (&["bytes"], b"peers 1\n\xFF", "scribe: line 2: expected text in UTF-8"),
         (&["text"], b"", "scribe: no text for this table: header of 0 bytes, not 6"),
@@ -74,6 +76,8 @@ fn the_program() {
         (&["explain", "--last", "--refused"], b"", "scribe: usage: scribe bytes"),
         (&["explain"], b"peer 1", "scribe: line 1: expected 'peers N"),
         (&["explain", "--text"], b"\x01\x01", "scribe: line 1: expected 'peers N"),
+        (&["sheet"], b"\x08\x00", "scribe: no sheet: period 8, but periods are 0 to 7\n"),
+        (&["sheet", "1"], b"\x01\x00", "scribe: usage: scribe bytes"),
     ];
     for (arguments, input, message) in failures {
         let output = program(arguments, input);

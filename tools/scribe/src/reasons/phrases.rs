@@ -4,7 +4,7 @@ use reference::state::{Board, Entry};
 use reference::table::{Item, Kind, Table};
 use reference::Refusal;
 
-/// The word of a refusal in document 01's table.
+/// The word of a refusal in the documents.
 pub fn word(refusal: Refusal) -> &'static str {
     match refusal {
         Refusal::Header => "header",
@@ -21,6 +21,7 @@ pub fn word(refusal: Refusal) -> &'static str {
         Refusal::Short => "short",
         Refusal::Full => "full",
         Refusal::Input => "input",
+        Refusal::Sheet => "sheet",
     }
 }
 
