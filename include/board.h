@@ -4,19 +4,21 @@
  *   docs/STEPS.md    a step's bytes, and what each step does
  *   docs/ANSWERS.md  the numbers that are answered, and when
  *   docs/STATE.md    a state's bytes
+ *   docs/SHEET.md    a sheet's bytes
  *   docs/PROMISES.md what is proved of these functions, and what is trusted
  *
- * Slices: a pointer and a length. Table, state, step and input may be any bytes
- *   of any length. What is written, state and out, overlaps nothing else that
- *   is lent.
+ * Slices: a pointer and a length. Table, state, step, input and sheet may be any
+ *   bytes of any length. What is written, be it state, out or sheet, or a number
+ *   by its pointer, overlaps nothing else that is lent.
  * Null: no pointer is ever null, also where its length is 0.
- * Alignment: none is asked; everything is bytes.
+ * Alignment: none is asked of bytes; a size_t stands as C puts it.
  * Threads: there are no globals and no call keeps a pointer, so calls on
  *   distinct buffers may run in parallel; a buffer that is written belongs to
  *   one call at a time.
  * Linking: nothing is allocated, and of the C library only memcpy and memset
  *   are called.
- * Refusals: a refused call alters no byte of the state.
+ * Refusals: a refused call alters nothing that is lent, no byte and no number;
+ *   only board_rehearse then writes its line `refused N` to out.
  */
 #ifndef BOARD_H
 #define BOARD_H
@@ -29,8 +31,9 @@ extern "C" {
 #endif
 
 /* Rises when a function, a number or a layout of this file changes.
- * 2: a report has the line `totals` before its last one. */
-#define BOARD_VERSION 2
+ * 2: a report has the line `totals` before its last one.
+ * 3: sheets: the answer 16, a layout and four functions. */
+#define BOARD_VERSION 3
 
 /* The answers, by their words. A number that is not here is a refusal too. */
 enum board_answer {
@@ -49,7 +52,8 @@ enum board_answer {
     BOARD_SHORT = 12,
     BOARD_FULL = 13,
     BOARD_STATE = 14,
-    BOARD_INPUT = 15
+    BOARD_INPUT = 15,
+    BOARD_SHEET = 16
 };
 
 /* The steps, by their words; beside each the fields that it uses. */
@@ -102,7 +106,14 @@ enum board_op {
 #define BOARD_TABLE_PAIRS_AT 6
 #define BOARD_TABLE_MOST 2630   /* no table is longer */
 
-/* A pair: where its item stands in the table. */
+/* A sheet, which is one board: its period, the number of its items, then a pair
+ * for each item, then the items, all as in a table. */
+#define BOARD_SHEET_PERIOD_AT 0
+#define BOARD_SHEET_COUNT_AT 1
+#define BOARD_SHEET_PAIRS_AT 2
+#define BOARD_SHEET_MOST 2626   /* no sheet is longer */
+
+/* A pair: where its item stands, from the start of the table or the sheet. */
 #define BOARD_PAIR_LENGTH 4
 #define BOARD_PAIR_OFFSET_AT 0 /* 2 bytes */
 #define BOARD_PAIR_SIZE_AT 2   /* 2 bytes */
@@ -186,6 +197,31 @@ size_t board_report_most(void);
 size_t board_rehearse(const uint8_t *input, size_t input_length,
                       uint8_t *state, size_t state_length,
                       uint8_t *out, size_t out_length);
+
+/* The length of a buffer that has room for every sheet, in bytes:
+ * BOARD_SHEET_MOST. */
+size_t board_sheet_most(void);
+
+/* Writes the sheet of a period's board to the start of the buffer `sheet`, and
+ * its length to *length: 0, or the first refusal that applies, of the table (1 to
+ * 4), of the state (14), of the period (6 if the table does not have it, 10 if it
+ * has no board), of the buffer (16 if the sheet is longer). Where a state has two
+ * boards of a period, the first in the bag is the period's.
+ * The buffer's bytes after the sheet keep their values. */
+uint8_t board_write_sheet(const uint8_t *table, size_t table_length,
+                          const uint8_t *state, size_t state_length,
+                          uint8_t period,
+                          uint8_t *sheet, size_t sheet_length,
+                          size_t *length);
+
+/* Judges a sheet, which is all of the bytes: 0, or 16. */
+uint8_t board_check_sheet(const uint8_t *sheet, size_t sheet_length);
+
+/* Where an item stands in a sheet, counted from 0 in the sheet's order: 0, or 16
+ * for bytes that are no sheet, or 6 for an item number of the count or above. */
+uint8_t board_sheet_item(const uint8_t *sheet, size_t sheet_length,
+                         uint8_t item,
+                         size_t *offset, size_t *length);
 
 #ifdef __cplusplus
 }

@@ -3,12 +3,17 @@
 #include "board.h"
 
 int main(void) {
-    uint8_t table = 0, state = 0, step = 0, out = 0;
+    uint8_t table = 0, state = 0, step = 0, out = 0, sheet = 0;
+    size_t offset = 0, length = 0;
     int good = board_check_table(&table, 0) == BOARD_HEADER
             && board_state_length() == BOARD_STATE_LENGTH
             && board_fresh(&table, 0, &state, 0) == BOARD_HEADER
             && board_step(&table, 0, &state, 0, &step, 0) == BOARD_HEADER
             && board_report_most() == BOARD_REPORT_MOST
-            && board_rehearse(&table, 0, &state, 0, &out, 0) > 0;
+            && board_rehearse(&table, 0, &state, 0, &out, 0) > 0
+            && board_sheet_most() == BOARD_SHEET_MOST
+            && board_write_sheet(&table, 0, &state, 0, 0, &sheet, 0, &length) == BOARD_HEADER
+            && board_check_sheet(&sheet, 0) == BOARD_SHEET
+            && board_sheet_item(&sheet, 0, 0, &offset, &length) == BOARD_SHEET;
     return good ? 0 : 1;
 }

@@ -1,4 +1,4 @@
-/* Tables and steps, made by the names of include/board.h alone. */
+/* Tables, entries and steps, made by the names of include/board.h alone. */
 #include "made.h"
 
 uint8_t table[ROOM], state[ROOM], expected[ROOM];
@@ -11,7 +11,7 @@ void check(int holds, const char *fact, const char *file, int line) {
     }
 }
 
-static void put_number(uint8_t *at, size_t number, int bytes) {
+void put_number(uint8_t *at, size_t number, int bytes) {
     for (int i = bytes - 1; i >= 0; i--, number /= 256) {
         at[i] = (uint8_t)(number % 256);
     }
@@ -50,6 +50,18 @@ void put_table(void) {
             put_item(k, 1000 + k, k % 4 == 1 ? BOARD_ITEM_AUDIT : BOARD_ITEM_CANCELLATION, 0);
         }
     }
+}
+
+void put_entry(uint8_t *of, int number, int kind, int signer, int period, uint64_t board) {
+    uint8_t *entry = of + BOARD_STATE_BAG_AT + BOARD_ENTRY_LENGTH * number;
+    entry[BOARD_ENTRY_KIND_AT] = (uint8_t)kind;
+    entry[BOARD_ENTRY_SIGNER_AT] = (uint8_t)signer;
+    entry[BOARD_ENTRY_PERIOD_AT] = (uint8_t)period;
+    for (int i = 0; i < 8; i++) {
+        entry[BOARD_ENTRY_BOARD_AT + i] = (uint8_t)(board >> 8 * i);
+    }
+    of[BOARD_STATE_COUNT_AT] = (uint8_t)((number + 1) % 256);
+    of[BOARD_STATE_COUNT_AT + 1] = (uint8_t)((number + 1) / 256);
 }
 
 uint8_t answer_of(struct step s) {

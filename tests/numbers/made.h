@@ -1,5 +1,5 @@
-/* What both halves of this test share: tables and steps, made by the names of
- * include/board.h alone, the state, and the state that is expected. */
+/* What the parts of this test share: tables, entries and steps, made by the names
+ * of include/board.h alone, the state, and the state that is expected. */
 #ifndef MADE_H
 #define MADE_H
 
@@ -23,9 +23,15 @@ extern size_t table_length;
 
 void put_table(void);
 
+/* A number of so many bytes, high byte first. */
+void put_number(uint8_t *at, size_t number, int bytes);
+
 /* A header without items behind it, and item k at the table's end. */
 void put_header(int peers, int threshold, int honest, int periods, int items);
 void put_item(int k, int ballot, int kind, int preferences);
+
+/* An entry of these fields, so numbered and the last, in the bag of a state. */
+void put_entry(uint8_t *of, int number, int kind, int signer, int period, uint64_t board);
 
 /* Makes the state fresh, and expects it so. */
 void start(void);
@@ -42,8 +48,9 @@ struct step {
 #define STEP(...) answer_of((struct step){__VA_ARGS__})
 uint8_t answer_of(struct step step);
 
-/* The two halves. */
+/* The parts. */
 void check_table_numbers(void);
 void check_state_numbers(void);
+void check_sheet_numbers(void);
 
 #endif

@@ -5,6 +5,7 @@
 int main(void) {
     check_table_numbers();
     check_state_numbers();
+    check_sheet_numbers();
     printf("tests/numbers: every number of include/board.h is the engine's\n");
     return EXIT_SUCCESS;
 }

@@ -24,16 +24,8 @@ static void expect_known(int j, int p, int i, int k) {
 }
 
 static void expect_entry(int kind, int signer, int period, uint64_t board) {
-    uint8_t *entry = expected + BOARD_STATE_BAG_AT + BOARD_ENTRY_LENGTH * entries;
-    entry[BOARD_ENTRY_KIND_AT] = (uint8_t)kind;
-    entry[BOARD_ENTRY_SIGNER_AT] = (uint8_t)signer;
-    entry[BOARD_ENTRY_PERIOD_AT] = (uint8_t)period;
-    for (int i = 0; i < 8; i++) {
-        entry[BOARD_ENTRY_BOARD_AT + i] = (uint8_t)(board >> 8 * i);
-    }
+    put_entry(expected, entries, kind, signer, period, board);
     entries++;
-    expected[BOARD_STATE_COUNT_AT] = (uint8_t)(entries % 256);
-    expected[BOARD_STATE_COUNT_AT + 1] = (uint8_t)(entries / 256);
 }
 
 /* Item 3 is posted and, in period 1, held and signed by all, taken by peer 2, shared and receipted. */
