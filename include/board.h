@@ -207,7 +207,8 @@ size_t board_sheet_most(void);
  * 4), of the state (14), of the period (6 if the table does not have it, 10 if it
  * has no board), of the buffer (16 if the sheet is longer). Where a state has two
  * boards of a period, the first in the bag is the period's.
- * The buffer's bytes after the sheet keep their values. */
+ * The buffer's bytes after the sheet keep their values; a refused call leaves the
+ * whole buffer and *length as they were. */
 uint8_t board_write_sheet(const uint8_t *table, size_t table_length,
                           const uint8_t *state, size_t state_length,
                           uint8_t period,
@@ -217,8 +218,9 @@ uint8_t board_write_sheet(const uint8_t *table, size_t table_length,
 /* Judges a sheet, which is all of the bytes: 0, or 16. */
 uint8_t board_check_sheet(const uint8_t *sheet, size_t sheet_length);
 
-/* Where an item stands in a sheet, counted from 0 in the sheet's order: 0, or 16
- * for bytes that are no sheet, or 6 for an item number of the count or above. */
+/* Gives where an item of a sheet stands in it, its offset and its length; items
+ * count from 0, in the sheet's order: 0, or 16 for bytes that are no sheet, or 6
+ * for an item number of the count or above. */
 uint8_t board_sheet_item(const uint8_t *sheet, size_t sheet_length,
                          uint8_t item,
                          size_t *offset, size_t *length);

@@ -98,7 +98,7 @@ static void check_written(void) {
     }
 }
 
-/* What is wrong with table and state comes before period and buffer: first a table that is cut short, then twins. */
+/* What is wrong with table or state comes before period and buffer, which are wrong here as well. */
 static void check_order(void) {
     lent_state--;
     CHECK(written(PERIODS, 0) == BOARD_STATE);
