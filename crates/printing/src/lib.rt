@@ -80,7 +80,7 @@ fn print(table: &[u8], p: u8, board: u64, m: u8, sheet: &mut [u8]) -> Written
 
 // Writes the sheet of period p's board, on a table that was taken and a state that is ready: nothing is validated
 // again.
-pub fn write_board(table: &[u8], s: &[u8], h: Head, p: u8, sheet: &mut [u8]) -> Written
+fn write_board(table: &[u8], s: &[u8], h: Head, p: u8, sheet: &mut [u8]) -> Written
     requires { ⌜ Judged (now table) (now s) h ⌝ }
     ensures { λ r. ⌜ (r ≡ written (now (table .entry)) (now (s .entry)) p (length (now (sheet .entry))))
         × (now (sheet .exit) ≡ sheetLeft (now (table .entry)) (now (s .entry)) p (now (sheet .entry))) ⌝ }
