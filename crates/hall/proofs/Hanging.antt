@@ -29,7 +29,7 @@ use Rattle.printing.specs.declared.board.Published.the-variants.{Items, Nothing
 use Rattle.printing.specs.Board.{boardsOn, published, boardTexts}
 use Rattle.printing.specs.Written.{sheetFor, Judged}
 use Rattle.printing.proofs.Finding.{board-there, board-absent}
-use Rattle.printing.proofs.Answering.{is-made}
+use Rattle.printing.proofs.Answering.{periods-read, is-made}
 use Rattle.printing.specs.ReadsBack.{ReadsAs}
 use Rattle.printing.proofs.ReadsBack.{Shows, reads-as, sheet-most}
 use Rattle.rehearsal.specs.Input.{inputMost, tableIn, inputRefusals, inputRefusal, stepCount}
@@ -83,20 +83,17 @@ module _ (table s : List ℕ) (p : ℕ) where
 -- a table that is taken and a state that is ready: the line of the first that applies, or the sheet
 
 module _ (table s : List ℕ) (p : ℕ) {h : Head} (J : Judged table s h) where
-  periods-read : h .periods ≡ periodsOf table
-  periods-read = ap (λ (h : Head). h .periods) (J .head)
-
   line-shown : {out is : List ℕ} {to n : ℕ} → n ≡ periodAnswer table s p → (n ≡ 0 → ⊥) → Wrote out 0 (refusedLine n) is to
       → Wrote out 0 (shown table s p) is to
   unfolding shown
   line-shown {n = n} answer bad w = renamed (rw (← answer, ne-eqb n 0 bad)) w
 
   pub no-period : {out is : List ℕ} {to : ℕ} → h .periods ≤ p → Wrote out 0 (refusedLine 6) is to → Wrote out 0 (shown table s p) is to
-  no-period l w = line-shown (name-first table s p (omega (arith, l, periods-read))) (λ e. omega arith) w
+  no-period l w = line-shown (name-first table s p (omega (arith, l, periods-read J))) (λ e. omega arith) w
 
   module _ (named : p < h .periods) {f : Published} (looked : f ≡ published (boardsOn s) p) where
     in-range : p < periodsOf table
-    in-range = omega (arith, named, periods-read)
+    in-range = omega (arith, named, periods-read J)
 
     pub no-board : {out is : List ℕ} {to : ℕ} → f ≡ Nothing → Wrote out 0 (refusedLine 10) is to → Wrote out 0 (shown table s p) is to
     no-board none w = line-shown (unknown-next table s p in-range (board-absent (boardsOn s) p looked none)) (λ e. omega arith) w

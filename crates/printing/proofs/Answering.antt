@@ -19,8 +19,8 @@ use Rattle.ballot.proofs.Sound.{sound}
 use Rattle.rules.specs.Ideal.{hasBoard}
 use Rattle.bits.specs.Row.{Bytes}
 use Rattle.valid.specs.StateOk.{stateOk}
-use Rattle.valid.proofs.Ready.{ready-of-ok, ok-of-ready}
-use Rattle.view.specs.Ready.{Room}
+use Rattle.valid.proofs.Ready.{ok-of-ready}
+use Rattle.engine.proofs.Calls.{ready-read}
 use Rattle.text.specs.Wrote.{over, Wrote}
 use Rattle.text.proofs.Writing.{_▷_, renamed}
 use Rattle.sheets.specs.Sheet.{pairsAt}
@@ -112,25 +112,22 @@ module _ (table s : List ℕ) (p room : ℕ) where
               past-table (pass 14 0 _ refl past-state (pass 6 0 _ refl past-name (pass 10 0 _ refl past-board
               (pass 16 0 _ refl (le-ltb _ _ l) none-left))))
 
--- a table that is taken
+-- a table that is taken, and a state that is one of it
 
-module _ (table : List ℕ) {r : ℕ} (checked : r ≡ refusal table) (good : r ≡ 0) where
-  fit : refusal table ≡ 0
-  fit = sym checked ∙ good
-
-  pub room-of : {h : Head} → h ≡ headOf table → Room h
-  room-of {h} e =
-      let S = sound table fit in
-      subst (λ h. Room h) (sym e) (record { peers = S .peers-most; periods = S .periods-most; items = S .items-most })
-
-  pub both-good : (s : List ℕ) {h : Head} {ok : Bool} → h ≡ headOf table → ok ≡ stateOk h s → Bytes s → not ok ≡ false
-      → Judged table s h
-  both-good s {h} {ok} head tested bytes y =
-      record { taken = fit; head = head; ready = ready-of-ok h s (room-of head) bytes (sym tested ∙ not-false ok y) }
+pub both-good : (table s : List ℕ) {r : ℕ} {h : Head} {ok : Bool} → r ≡ refusal table → r ≡ 0 → h ≡ headOf table → ok ≡ stateOk h s
+    → Bytes s → not ok ≡ false → Judged table s h
+both-good table s {r} {h} {ok} checked good head tested bytes y = record {
+  taken = sym checked ∙ good;
+  head = head;
+  ready = ready-read table checked good s h head tested bytes (not-false ok y);
+}
 
 module _ {table s : List ℕ} {h : Head} (given : Judged table s h) where
   pub items-read : h .items ≡ itemsOf table
   items-read = ap (λ (h : Head). h .items) (given .head)
+
+  pub periods-read : h .periods ≡ periodsOf table
+  periods-read = ap (λ (h : Head). h .periods) (given .head)
 
   pub is-made : (p : ℕ) {B : ℕ} → B ≡ firstBoard (boardsOn s) p → sheetOf p (boardTexts table B (h .items)) ≡ sheetFor table s p
   unfolding sheetFor
@@ -165,16 +162,13 @@ module _ (table s : List ℕ) (p : ℕ) (was : List ℕ) where
     state-taken : stateOk (headOf table) s ≡ true
     state-taken = subst (λ h. stateOk h s ≡ true) (given .head) (ok-of-ready h s (given .ready))
 
-    periods-read : h .periods ≡ periodsOf table
-    periods-read = ap (λ (h : Head). h .periods) (given .head)
-
     pub no-period : h .periods ≤ p → Ended (Refused 6) was
     no-period l =
-        refused (λ e. omega arith) (name-given table s p (length was) (given .taken) state-taken (omega (arith, l, periods-read)))
+        refused (λ e. omega arith) (name-given table s p (length was) (given .taken) state-taken (omega (arith, l, periods-read given)))
 
     module _ (named : p < h .periods) {f : Published} (looked : f ≡ published (boardsOn s) p) where
       in-range : p < periodsOf table
-      in-range = omega (arith, named, periods-read)
+      in-range = omega (arith, named, periods-read given)
 
       pub no-board : f ≡ Nothing → Ended (Refused 10) was
       no-board is =

@@ -39,11 +39,11 @@ module _ (table : List ℕ) (B : ℕ) where
 
   -- one item more: the board has it, or not
 
-  with-next : (n : ℕ) → bit B n ≡ true → texts (suc n) ≡ texts n ++ (itemText table n ∷ [])
+  pub with-next : (n : ℕ) → bit B n ≡ true → texts (suc n) ≡ texts n ++ (itemText table n ∷ [])
   unfolding boardTexts
   with-next n on = rw on
 
-  without-next : (n : ℕ) → bit B n ≡ false → texts (suc n) ≡ texts n
+  pub without-next : (n : ℕ) → bit B n ≡ false → texts (suc n) ≡ texts n
   unfolding boardTexts
   without-next n off = rw off (append-nil (texts n))
 

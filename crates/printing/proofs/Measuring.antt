@@ -23,6 +23,7 @@ use Rattle.sheets.proofs.Joined.{joined-append, pairs-append}
 use Rattle.printing.specs.Board.{boardTexts}
 use Rattle.printing.specs.Measured.{Measured, pairOn, textIf}
 use Rattle.printing.specs.declared.Extent.{Extent}
+use Rattle.printing.proofs.Chosen.{with-next, without-next}
 
 -- no item's text has more than 37 bytes
 pub text-most : (table : List ℕ) → refusal table ≡ 0 → (x : ℕ) → length (itemText table x) ≤ 37
@@ -72,7 +73,7 @@ module _ (table : List ℕ) (B x : ℕ) where
     unfolding textIf
     measured-skip out =
         let off : bit B x ≡ false = sym asked ∙ not-true r out in
-        let same : boardTexts table B (x + 1) ≡ texts = more ∙ rw off (append-nil texts) in
+        let same : boardTexts table B (x + 1) ≡ texts = rw (add-one x) (without-next table B x off) in
         record {
           counted = M .counted ∙ ap length (sym same);
           sized = M .sized ∙ ap (λ t. length (joined t)) (sym same);
@@ -86,7 +87,7 @@ module _ (table : List ℕ) (B x : ℕ) where
     measured-more {t} taken held is =
         let long : length t ≡ length (itemText table x) = ap length is in
         let on : bit B x ≡ true = sym asked ∙ not-false r held in
-        let with : boardTexts table B (x + 1) ≡ texts ++ (itemText table x ∷ []) = more ∙ rw on in
+        let with : boardTexts table B (x + 1) ≡ texts ++ (itemText table x ∷ []) = rw (add-one x) (with-next table B x on) in
         let longer : joined (boardTexts table B (x + 1)) ≡ joined texts ++ itemText table x = texts-more ∙ rw on in
         record {
           counted = omega (arith, M .counted, ap length with, length-append texts (itemText table x ∷ []));

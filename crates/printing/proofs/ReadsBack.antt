@@ -18,7 +18,6 @@ use Rattle.base.proofs.Refusals.{passed, first-passed, first-given}
 use Rattle.base.proofs.Tab.{getD-tab}
 use Rattle.header.specs.Header.{headOf, periodsOf, itemsOf, headerOk}
 use Rattle.ballot.specs.Table.{tablePairsOk, itemsOk, noTwins, tableRefusals, refusal}
-use Rattle.ballot.proofs.Readings.{item-most}
 use Rattle.ballot.proofs.Sound.{sound}
 use Rattle.rules.specs.Ideal.{hasBoard, onBoard}
 use Rattle.figures.specs.Sums.{howMany}
@@ -28,8 +27,7 @@ use Rattle.text.specs.Wrote.{over}
 use Rattle.sheets.specs.Sheet.{sheetMost, countOn, textOn}
 use Rattle.sheets.specs.ReadBack.{Reads}
 use Rattle.sheets.proofs.Exact.{reader-exact}
-use Rattle.sheets.proofs.ReadBack.{reads}
-use Rattle.sheets.proofs.Joined.{sheet-length, joined-most}
+use Rattle.sheets.proofs.ReadBack.{reads, made-most}
 use Rattle.printing.specs.Board.{boardsOn, firstBoard, boardTexts}
 use Rattle.printing.specs.Written.{sheetFor, boardRefusals, writeAnswer, written, sheetLeft}
 use Rattle.printing.specs.declared.Written.the-variants.{Sheet, Refused}
@@ -165,8 +163,7 @@ pub sheet-most : (table s : List ℕ) (p : ℕ) → refusal table ≡ 0 → leng
 unfolding sheetFor
 sheet-most table s p taken =
     let texts = boardTexts table (firstBoard (boardsOn s) p) (itemsOf table) in
-    let L = listed table (firstBoard (boardsOn s) p) taken in
-    omega (arith, sheet-length p texts, joined-most texts (λ k l. item-most _ (L .items k l)), L .few)
+    made-most p texts (listed table (firstBoard (boardsOn s) p) taken)
 
 -- a buffer with room for every sheet: of the refusals only the last has the number 16, and its test fails
 

@@ -1,6 +1,7 @@
 // A published board as a sheet: for any table, state, period and buffer the sheet of the period's board, or a refusal.
 // Table and state are validated once; what is refused alters nothing.
-// It uses ballot and valid to judge, bag to find the board, text to write, and sheets for what a sheet is.
+// It uses ballot and valid to judge, bag to find the board, text to write, and sheets for what a sheet is; of engine
+// two laws, and no code.
 ghost use mathlib.Core.Path.{_≡_};
 ghost use Prim.Native.Nat.{_+_, _<_, _≤_};
 ghost use lib.ListN.{length};

@@ -1,5 +1,6 @@
 pub mod Judged
 pub mod Finding
+pub mod Passed
 pub mod Exact
 pub mod Joined
 pub mod ReadBack

@@ -15,11 +15,11 @@ use Rattle.base.proofs.Tab.{length-tab, getD-tab}
 use Rattle.bits.specs.Row.{Bytes}
 use Rattle.pairs.specs.Pairs.{pairNumber, offsetOf, sizeOf, firstOffset, endBefore, pairsFit, lastEnd, pairsOk}
 use Rattle.pairs.proofs.Texts.{pair-number, starts-at, text-length}
-use Rattle.ballot.specs.Item.{allItems}
 use Rattle.ballot.proofs.Readings.{item-most, each-item}
 use Rattle.sheets.specs.Sheet.{itemsMost, sheetMost, pairsAt, periodOn, countOn, textOn, textsOn, sheetOk}
 use Rattle.sheets.specs.Made.{twoBytes, pairBytes, pairsFrom, joined, sheetOf}
 use Rattle.sheets.specs.Only.{OnlySheet}
+use Rattle.sheets.proofs.Passed.{passed}
 use Rattle.sheets.proofs.Joined.{joined-more, pairs-more, joined-most}
 
 -- the two bytes at i
@@ -45,16 +45,10 @@ module _ (s : List ℕ) (ok : sheetOk s ≡ true) where
   -- what the tests say
 
   few : countOn s ≤ itemsMost
-  unfolding sheetOk
-  few = leb-true (countOn s) itemsMost (search (and-l, and-r) depth 9)
+  few = passed s ok .count
 
   pairs-ok : pairsOk s pairsAt (countOn s) ≡ true
-  unfolding sheetOk
-  pairs-ok = search (and-l, and-r) depth 9
-
-  items-ok : allItems s pairsAt (countOn s) ≡ true
-  unfolding sheetOk
-  items-ok = search (and-l, and-r) depth 9
+  pairs-ok = passed s ok .pairs
 
   fit : pairsFit s pairsAt (countOn s) ≡ true
   unfolding pairsOk
@@ -97,7 +91,7 @@ module _ (s : List ℕ) (ok : sheetOk s ≡ true) where
   short : (k : ℕ) → k < length (textsOn s) → length (getD (textsOn s) k []) ≤ 37
   short k l =
       let below : k < countOn s = rw length-tab at l in
-      rw (getD-tab (countOn s) (textOn s) k [] below) (item-most _ (each-item s pairsAt (countOn s) items-ok k below))
+      rw (getD-tab (countOn s) (textOn s) k [] below) (item-most _ (each-item s pairsAt (countOn s) (passed s ok .items) k below))
 
   sheet-most : length s ≤ sheetMost
   sheet-most =

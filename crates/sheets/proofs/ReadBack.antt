@@ -30,15 +30,17 @@ number-after before rest v i small long =
     let low : v % 256 ≡ byteAt s (i + 1) = rw (← long) (sym (getD-append-add before (twoBytes v ++ rest) 1 0)) in
     sym (pair-number s i high low) ∙ omega arith
 
+-- what is made of listed texts is no longer than any sheet
+pub made-most : (p : ℕ) (texts : List (List ℕ)) → Listed texts → length (sheetOf p texts) ≤ sheetMost
+made-most p texts listed =
+    omega (arith, sheet-length p texts, joined-most texts (λ k l. item-most _ (listed .items k l)), listed .few)
+
 module _ (p : ℕ) (texts : List (List ℕ)) (small : p < periodsMost) (listed : Listed texts) where
   abbrev sheet : List ℕ
   sheet = sheetOf p texts
 
   abbrev first : ℕ
   first = firstOffset pairsAt (length texts)
-
-  most : length sheet ≤ sheetMost
-  most = omega (arith, sheet-length p texts, joined-most texts (λ k l. item-most _ (listed .items k l)), listed .few)
 
   -- text k, which starts where those before it end
 
@@ -87,7 +89,7 @@ module _ (p : ℕ) (texts : List (List ℕ)) (small : p < periodsMost) (listed :
     fits : start + length text < 65536
     fits =
         let whole = ap length cut-text ∙ length-append to-text (text ++ joined after) in
-        omega (arith, most, to-text-length, length-append text (joined after))
+        omega (arith, made-most p texts listed, to-text-length, length-append text (joined after))
 
     offset-on : offsetOf sheet pairsAt k ≡ start
     offset-on = rw cut-pair (number-after to-pair (twoBytes (length text) ++ past-pair) start _ (omega (arith, fits)) to-pair-length)
