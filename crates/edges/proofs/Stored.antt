@@ -2,8 +2,8 @@
 use Prim.Native.Nat.{ℕ, zero, suc, _+_}
 use mathlib.Core.Bool.{Bool, true, false}
 use mathlib.Core.List.{List, [], _∷_, _++_}
-use mathlib.Core.Path.{_≡_, refl, _∙_, subst}
-use Rattle.base.proofs.Truth.{false-true, and-i, or-l, eqb-self}
+use mathlib.Core.Path.{_≡_, refl, subst}
+use Rattle.base.proofs.Truth.{false-true}
 use Rattle.base.proofs.Sets.{new1, new2, new3, new4, at-set}
 use Rattle.rules.specs.declared.Entry.{Entry}
 use Rattle.rules.specs.declared.Entry.the-variants.{Backing}
@@ -14,16 +14,12 @@ use Rattle.rules.specs.Bag.{isIn, isBacking, entryAt, enter}
 use Rattle.rules.specs.State.{State}
 use Rattle.rules.specs.Rules.{rule, answer, next, addRows}
 use Rattle.rules.specs.Repeat.{There}
-use Rattle.rules.proofs.Answered.{Clear, answered, judged}
-use Rattle.rules.proofs.Rows.{rows-grow}
-use Rattle.rules.proofs.Bag.{same-self, in-enter, enter-cases}
+use Rattle.rules.proofs.Answered.{Clear, answered, done, judged}
+use Rattle.rules.proofs.Rows.{rows-new, rows-grow}
+use Rattle.rules.proofs.Bag.{entered, enter-cases}
 use Rattle.edges.specs.Exact.{ownBoard}
 
--- an entry is in the bag that it entered
-entered : (a : Entry) (bag : List Entry) → isIn a (enter a bag) ≡ true
-entered a bag = in-enter a a bag ∙ or-l _ _ (same-self a)
-
--- and the backings there keep their numbers
+-- the backings in a bag keep their numbers
 stays-appended : (bag : List Entry) (a : Entry) (e : ℕ) → isBacking (entryAt bag e) ≡ true → entryAt (bag ++ (a ∷ [])) e ≡ entryAt bag e
 stays-appended [] a e h = false-true h
 stays-appended (b ∷ bag) a zero h = refl
@@ -34,19 +30,13 @@ entry-stays bag a e h = enter-cases (λ l. entryAt l e ≡ entryAt bag e) a bag 
 
 -- a database that has fetched another has what that one has
 module _ (j k p : ℕ) (db : ℕ → ℕ → ℕ → ℕ → Bool) where
-  row : (x l : ℕ) → db k p x l ≡ true → addRows j p (db k p) db j p x l ≡ true
-  unfolding addRows
-  row x l r = or-l _ _ (and-i _ _ (eqb-self j) (and-i _ _ (eqb-self p) r))
-
   fetched : (x l : ℕ) → addRows j p (db k p) db k p x l ≡ true → addRows j p (db k p) db j p x l ≡ true
-  fetched x l h = rows-grow j p (db k p) db {P = λ i q y m. i ≡ k → q ≡ p → addRows j p (db k p) db j p y m ≡ true} (λ y m r u v. row y m r)
-      (λ i q y m d u v. row y m (subst (λ (q : ℕ). db k q y m ≡ true) v (subst (λ (i : ℕ). db i q y m ≡ true) u d))) k p x l h refl refl
+  fetched x l h = rows-grow j p (db k p) db {P = λ i q y m. i ≡ k → q ≡ p → addRows j p (db k p) db j p y m ≡ true}
+      (λ y m r u v. rows-new j p (db k p) db y m r)
+      (λ i q y m d u v. rows-new j p (db k p) db y m
+      (subst (λ (q : ℕ). db k q y m ≡ true) v (subst (λ (i : ℕ). db i q y m ≡ true) u d))) k p x l h refl refl
 
 module _ (T : Table) (s : State) where
-  done : (st : Step) → answer T s st ≡ 0 → next T s st ≡ rule T s st .effect
-  unfolding next
-  done st taken = rw taken
-
   effect-there : (st : Step) → ((j : ℕ) → st ≡ Close j → ⊥) → ((j : ℕ) → st ≡ Back j → ⊥) → Clear T s st → There T (rule T s st .effect) st
   unfolding rule
   effect-there (Post x) n m c = new1 x (s .posted)
@@ -69,13 +59,13 @@ module _ (T : Table) (s : State) where
   effect-there (Up j) n m c = at-set j false (s .down)
 
   pub stored : (st : Step) → ((j : ℕ) → st ≡ Close j → ⊥) → ((j : ℕ) → st ≡ Back j → ⊥) → answer T s st ≡ 0 → There T (next T s st) st
-  stored st n m taken = rw (done st taken) (effect-there st n m (answered T s st taken))
+  stored st n m taken = rw (done T s st taken) (effect-there st n m (answered T s st taken))
 
   pub closes : (j : ℕ) → answer T s (Close j) ≡ 0 → next T s (Close j) .current j ≡ s .current j + 1
   unfolding rule
-  closes j taken = rw (done (Close j) taken) (at-set j (s .current j + 1) (s .current))
+  closes j taken = rw (done T s (Close j) taken) (at-set j (s .current j + 1) (s .current))
 
   pub backs : (j : ℕ) → answer T s (Back j) ≡ 0
       → let u = next T s (Back j) in (u .toBack j ≡ s .toBack j + 1) × (isIn (Backing j (s .toBack j) (ownBoard T s j)) (u .bag) ≡ true)
   unfolding rule
-  backs j taken = rw (done (Back j) taken) (at-set j (s .toBack j + 1) (s .toBack), entered _ (s .bag))
+  backs j taken = rw (done T s (Back j) taken) (at-set j (s .toBack j + 1) (s .toBack), entered _ (s .bag))

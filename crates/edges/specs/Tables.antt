@@ -34,12 +34,16 @@ three =
     1 ∷ 1 ∷ 0 ∷ 0 ∷ 1 ∷ 3 ∷ 0 ∷ 18 ∷ 0 ∷ 6 ∷ 0 ∷ 24 ∷ 0 ∷ 5 ∷ 0 ∷ 29 ∷ 0 ∷ 5 ∷
     (vote (0 ∷ []) ++ (audit ++ cancellation))
 
--- n peers with threshold t, of which the first h are honest, one period, and two votes of ballot 7, which clash
-abbrev pub twoVotes : ℕ → ℕ → ℕ → List ℕ
-twoVotes n t h =
+-- n peers with threshold t, of which the first h are honest, P periods, and two votes of ballot 7, which clash
+abbrev pub votesOver : ℕ → ℕ → ℕ → ℕ → List ℕ
+votesOver P n t h =
     let honest = 2 ^ h - 1 in
-    n ∷ t ∷ honest / 256 ∷ honest % 256 ∷ 1 ∷ 2 ∷ 0 ∷ 14 ∷ 0 ∷ 6 ∷ 0 ∷ 20 ∷ 0 ∷ 6 ∷
+    n ∷ t ∷ honest / 256 ∷ honest % 256 ∷ P ∷ 2 ∷ 0 ∷ 14 ∷ 0 ∷ 6 ∷ 0 ∷ 20 ∷ 0 ∷ 6 ∷
     (vote (0 ∷ []) ++ vote (1 ∷ []))
+
+-- the same with one period
+abbrev pub twoVotes : ℕ → ℕ → ℕ → List ℕ
+twoVotes = votesOver 1
 
 -- the table of case R
 abbrev pub caseR : List ℕ

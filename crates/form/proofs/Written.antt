@@ -1,5 +1,5 @@
 -- Bytes are read as a step exactly if they are the thirteen bytes that it is written as.
-use Prim.Native.Nat.{ℕ, suc, _+_, _-_, _*_, _/_, _^_, _<_, _≤_}
+use Prim.Native.Nat.{ℕ, zero, suc, _+_, _-_, _*_, _/_, _^_, _<_, _≤_}
 use native.Mathlib.Nat.{div-div-eq-div-mul, pow-suc, div-one}
 use native.Mathlib.Omega.{arith}
 use mathlib.Core.Bool.{Bool, true, false}
@@ -7,7 +7,7 @@ use mathlib.Core.List.{List, [], _∷_}
 use mathlib.Core.Logic.{_⊎_, inl, inr}
 use mathlib.Core.Path.{_≡_, refl, sym, ap, _∙_}
 use lib.Dec.{eqb}
-use lib.ListN.{length}
+use lib.ListN.{length, drop}
 use borrow.Author.Tests.{eqb-true}
 use Rattle.base.specs.Bytes.{byteAt, numberAt}
 use Rattle.base.specs.Tab.{tab}
@@ -35,7 +35,7 @@ unfolding numberAt
 whole B h =
     more B 0 _ (more B 1 _ (more B 2 _ (more B 3 _ (more B 4 _ (more B 5 _ (more B 6 _ (more B 7 0 (omega arith)))))))) ∙ div-one B
 
-read-written : (st : Step) → fields st .board < 2 ^ 64 → read (written st) ≡ Formed st
+pub read-written : (st : Step) → fields st .board < 2 ^ 64 → read (written st) ≡ Formed st
 unfolding numberAt allZero formed select ops laterOps read
 read-written (Post x) h = refl
 read-written (Hand j x) h = refl
@@ -55,6 +55,27 @@ read-written (FalseHash j p B) h = ap (λ (C : ℕ). Formed (FalseHash j p C)) (
 read-written (FalseBacking j p B) h = ap (λ (C : ℕ). Formed (FalseBacking j p C)) (whole B h)
 read-written (Down j) h = refl
 read-written (Up j) h = refl
+
+-- the thirteen bytes of fields that are bytes, and of any board, are bytes
+
+abbrev AllBytes : List ℕ → Type 0
+AllBytes [] = Unit {0}
+AllBytes (b ∷ l) = (b < 256) × AllBytes l
+
+all-bytes : (l : List ℕ) → AllBytes l → (i : ℕ) → byteAt l i < 256
+all-bytes [] h i = omega arith
+all-bytes (b ∷ l) h zero = h .0
+all-bytes (b ∷ l) h (suc i) = all-bytes l (h .1) i
+
+pub written-bytes : (st : Step) → let f = fields st in f .op < 256 → f .peer < 256 → f .other < 256 → f .period < 256 → f .item < 256
+    → (i : ℕ) → byteAt (written st) i < 256
+written-bytes st op peer other period item = all-bytes (written st) (op, (peer, (other, (period, (item, board)))))
+  where
+    low : (i : ℕ) → boardByte (fields st .board) i < 256
+    low i = omega arith
+
+    board : AllBytes (drop 5 (written st))
+    board = (low 7, (low 6, (low 5, (low 4, (low 3, (low 2, (low 1, (low 0, tt))))))))
 
 -- bytes that are read are those of the step
 

@@ -1,35 +1,23 @@
 -- Engines that follow the rules: the rules do, and what such an engine answers and holds after calls is what the rules do.
 use Prim.Native.Nat.{ℕ}
-use mathlib.Core.Bool.{true, false}
 use mathlib.Core.List.{List, [], _∷_}
 use mathlib.Core.Path.{_≡_, refl, ap, ap₂, fun-ext, _∙_}
-use mathlib.Core.Logic.{_⊎_, inl, inr}
-use lib.Dec.{eqb}
-use borrow.Author.Tests.{eqb-true}
-use Rattle.base.proofs.Truth.{either}
 use Rattle.rules.specs.declared.Call.{Call}
-use Rattle.rules.specs.declared.Call.the-variants.{Formed, Malformed}
 use Rattle.rules.specs.Table.{Table}
 use Rattle.rules.specs.State.{State, fresh}
 use Rattle.rules.specs.Form.{read}
-use Rattle.rules.specs.Rules.{answer, next, leave}
+use Rattle.rules.specs.Rules.{reply, leave}
 use Rattle.rules.specs.Ideal.{Fed}
-use Rattle.rules.specs.Run.{Engine, seenWith, runFrom, after, answersFrom, byRules, run}
+use Rattle.rules.specs.Run.{World, Engine, seenWith, runFrom, after, storeFrom, storeAfter, answersFrom, byRules, run}
 use Rattle.rules.specs.Follows.{Follows}
 use Rattle.rules.specs.Valid.{Valid}
-use Rattle.rules.proofs.Answered.{answered}
+use Rattle.rules.proofs.Answered.{by-call}
 use Rattle.rules.proofs.Runs.{ruled}
 use Rattle.rules.proofs.Valid.{keeps-valid, fresh-valid}
 
 module _ (T : Table) where
   leaves-valid : (s : State) → Valid T s → (c : Call) → Valid T (leave T s c)
-  unfolding leave next
-  leaves-valid s G Malformed = G
-  leaves-valid s G (Formed st) = go (either (eqb (answer T s st) 0))
-    where
-      go : (eqb (answer T s st) 0 ≡ true) ⊎ (eqb (answer T s st) 0 ≡ false) → Valid T (next T s st)
-      go (inl e) = rw e (keeps-valid T s G st (answered T s st (eqb-true (answer T s st) 0 e)))
-      go (inr e) = rw e G
+  leaves-valid s G c = by-call T (Valid T) s G c (λ st e a clear. keeps-valid T s G st clear)
 
   pub rules-follow : Follows T (byRules T) (Valid T)
   rules-follow = record {
@@ -65,3 +53,19 @@ module _ {T : Table} {X : Type 0} {E : Engine X} {Ready : X → Type 0} (F : Fol
   pub answered-as-ruled : (calls : List (List ℕ)) → answersFrom E (E .starts) calls ≡ answersFrom (byRules T) fresh calls
   answered-as-ruled calls = answered-from calls (E .starts) (F .starts-ready) ∙ ap (λ (s : State). answersFrom (byRules T) s calls)
       (F .starts-fresh)
+
+  -- the store after a list of calls is ready, and holds what is held then
+  store-from : (calls : List (List ℕ)) (x : X) (seen : List Fed) → Ready x
+      → Ready (storeFrom E x calls) × (E .holds (storeFrom E x calls) ≡ runFrom E x seen calls .engine)
+  unfolding runFrom storeFrom
+  store-from [] x seen R = (R, refl)
+  store-from (c ∷ calls) x seen R =
+      store-from calls (E .leaves x c) (seenWith seen (E .holds x .bag) (read c) (E .answers x c)) (F .stays-ready x R c)
+
+  -- so the next call is answered as the rules answer it
+  pub next-answer : (calls : List (List ℕ)) (c : List ℕ) → E .answers (storeAfter E calls) c ≡ reply T (run T calls .engine) (read c)
+  unfolding after
+  next-answer calls c =
+      let left = store-from calls (E .starts) [] (F .starts-ready) in
+      F .answers (storeAfter E calls) (left .0) c
+      ∙ ap (λ (s : State). reply T s (read c)) (left .1 ∙ ap (λ (w : List (List ℕ) → World). w calls .engine) as-ruled)
