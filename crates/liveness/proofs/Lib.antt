@@ -1,0 +1,12 @@
+pub mod Keeps
+pub mod Places
+pub mod Answers
+pub mod Union
+pub mod Fetches
+pub mod Backed
+pub mod Settled
+pub mod Through
+pub mod Entering
+pub mod Parts
+pub mod Schedule
+pub mod CanClose

@@ -1,0 +1,6 @@
+pub mod Union
+pub mod Places
+pub mod Close
+pub mod InTurn
+pub mod Through
+pub mod Schedule
