@@ -30,7 +30,7 @@ module _ (table : List ℕ) (fit : refusal table ≡ 0) where
     stays-ready = λ s R c. step-leaves table fit s R c .ready;
   }
 
-  premise : thresholdOf table ≤ honestCount (headOf table) → Premise (rulesTable table)
+  pub premise : thresholdOf table ≤ honestCount (headOf table) → Premise (rulesTable table)
   unfolding weightOf
   premise enough = counted (rulesTable table) refl (sound table fit .threshold-rule) enough (clash-in-sym table) (clash-in-self table)
 

@@ -1,4 +1,5 @@
 pub mod Demand3
+pub mod Liveness
 pub mod Rehearsals
 pub mod Totals
 pub mod Sheets

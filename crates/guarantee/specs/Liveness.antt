@@ -1,0 +1,27 @@
+-- When a board comes, of the bytes: P3 about the very definitions that `step` promises.
+use Prim.Native.Nat.{ℕ}
+use mathlib.Core.List.{List}
+use mathlib.Core.Path.{_≡_}
+use Rattle.header.specs.Header.{headOf, peersOf, honestCount}
+use Rattle.ballot.specs.Table.{refusal}
+use Rattle.engine.specs.Engine.{rulesTable}
+use Rattle.liveness.specs.Places.{Behaviour, behaviour}
+use Rattle.liveness.specs.Through.{AlwaysThrough}
+use Rattle.liveness.specs.Schedule.{CanClose, MadeOfBytes}
+use Rattle.guarantee.specs.Demand3.{byBytes}
+
+-- the table is taken, and all of its peers are honest
+pub record NoneDishonest (table : List ℕ) : Type 0 where
+  pub taken : refusal table ≡ 0
+  pub honest : honestCount (headOf table) ≡ peersOf table
+
+-- what those outside see of the engine on bytes, from the fresh state: what the buffer holds after a list of calls, and
+-- the answer of `step` to the next
+abbrev pub onBytes : List ℕ → Behaviour
+onBytes table = behaviour (byBytes table)
+
+-- every close comes through, and one can be had, in calls of thirteen bytes, wherever there is room for it in the bag
+pub record BoardsCome (table : List ℕ) : Type 0 where
+  pub through : AlwaysThrough (rulesTable table) (onBytes table)
+  pub can-close : CanClose (rulesTable table) (onBytes table)
+  pub in-bytes : MadeOfBytes (rulesTable table) (onBytes table)
