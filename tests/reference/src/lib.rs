@@ -13,6 +13,7 @@
 //!   dishonest peer stand in `false_steps`
 //! - `report`: the rehearsal, from input bytes to output bytes
 //! - `totals`: the figures at its foot, counted from the accepted steps
+//! - `union`: the union of the databases, and its board
 //! - `sheet`: a published board as a file of its own, written and read
 //! - `ideal`: the ideal board
 
@@ -27,6 +28,7 @@ pub mod state;
 pub mod step;
 pub mod table;
 pub mod totals;
+pub mod union;
 
 /// The numbers that are answered, but for 0 (done) and 14 (state).
 #[derive(Clone, Copy, Debug, PartialEq, Eq)]

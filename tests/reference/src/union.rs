@@ -1,0 +1,25 @@
+//! The union of the peers' databases, of document 02's P3: what a close that
+//! comes through puts on the board.
+
+use crate::state::{Board, State};
+use crate::table::Table;
+use std::collections::{BTreeMap, BTreeSet};
+
+/// The union of all peers' databases of a period: signer sets by item.
+pub fn union(state: &State, period: usize) -> BTreeMap<usize, BTreeSet<usize>> {
+    let mut union: BTreeMap<usize, BTreeSet<usize>> = BTreeMap::new();
+    for peer in &state.peers {
+        for ((q, item), signers) in &peer.database {
+            if *q == period {
+                union.entry(*item).or_default().extend(signers);
+            }
+        }
+    }
+    union
+}
+
+/// The items with t signers in the union of the databases of a period.
+pub fn union_board(table: &Table, state: &State, period: usize) -> Board {
+    let reach = |(_, signers): &(usize, BTreeSet<usize>)| signers.len() >= table.t;
+    union(state, period).into_iter().filter(reach).map(|(item, _)| item).collect()
+}
