@@ -6,7 +6,9 @@
 //! - `lent`: bytes that are lent, and those around them
 //! - `pair`: engines and reference on the same calls
 //! - `sheets`: the same for sheets, written and read
+//! - `closes`: closes of a period, run so: what was asked of them, and what came
 
+pub mod closes;
 pub mod layout;
 pub mod lent;
 pub mod pair;

@@ -7,6 +7,7 @@ use reference::state::{Entry, State};
 use reference::table::{read_table, Table};
 
 /// A table with the reference's state on it, and the bytes of that state.
+#[derive(Clone)]
 pub struct Pair {
     pub text: Vec<u8>,
     pub table: Table,

@@ -1,4 +1,5 @@
-//! Random inputs for every engine: tables, steps, sheets and whole rehearsals.
+//! Random inputs for every engine: tables, steps, sheets, closes and whole
+//! rehearsals.
 //!
 //! - `random`: a small generator, and the seed of a run
 //! - `tables`: valid tables, and damaged ones
@@ -12,13 +13,18 @@
 //!   with the most to report, those whose totals are easily counted wrong, and
 //!   those that are refused
 //! - `kinds`: every kind of rehearsal
+//! - `closes`, with `earlier` and `exchange`: closes of a period that come through,
+//!   and such as lack something
 //! - `answers`: which answers the steps got
 //! - `sheets`: valid sheets, damaged ones, and other bytes
 //! - `stored`: the rehearsals that are stored, with their reports
 
 pub mod answers;
 mod bursts;
+pub mod closes;
 mod counted;
+mod earlier;
+mod exchange;
 pub mod kinds;
 pub mod making;
 mod odd;

@@ -55,6 +55,11 @@ impl Random {
         (at < all.len()).then(|| all.swap_remove(at))
     }
 
+    /// Each of those given, so many times in a hundred.
+    pub fn some_of<T>(&mut self, percent: usize, from: impl Iterator<Item = T>) -> Vec<T> {
+        from.filter(|_| self.chance(percent)).collect()
+    }
+
     pub fn shuffle<T>(&mut self, list: &mut [T]) {
         for k in (1..list.len()).rev() {
             list.swap(k, self.below(k + 1));
