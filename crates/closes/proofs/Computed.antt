@@ -15,7 +15,7 @@ use Rattle.ballot.specs.Table.{itemBelow}
 use Rattle.clash.specs.Clash.{clash, clashIn}
 use Rattle.rules.specs.declared.Step.the-variants.{Publish}
 use Rattle.rules.specs.Table.{clashing}
-use Rattle.rules.specs.Bag.{sameEntry, isIn, enter, isFull, boardsIn}
+use Rattle.rules.specs.Bag.{sameEntry, isIn, placeIn, enter, isFull, boardsIn}
 use Rattle.rules.specs.Form.{allZero, formed, select, ops, laterOps, read}
 use Rattle.rules.specs.Rules.{boardFrom, addRows, rule, answer, next, reply, leave}
 use Rattle.rules.specs.Deed.{deed, deedOf}
@@ -23,7 +23,7 @@ use Rattle.rules.specs.Run.{backingNamed, seenWith, runFrom, after}
 use Rattle.form.specs.Written.{written}
 use Rattle.engine.specs.Engine.{rulesTable}
 use Rattle.liveness.specs.Union.{unionOf}
-use Rattle.liveness.specs.Schedule.{placeIn, schedule, Room}
+use Rattle.liveness.specs.Schedule.{schedule, Room}
 use Rattle.liveness.proofs.Places.{ruled}
 use Rattle.closes.specs.Plan.{everyPlace, Planned}
 use Rattle.closes.specs.Runs.{table2, earlier2, later2, plan2, inTurn2, table4, earlier4, later4, plan4, byOthers4, planByOthers4}

@@ -3,17 +3,14 @@ use Prim.Native.Nat.{ℕ, _<_}
 use mathlib.Core.Bool.{Bool, true, false, not}
 use mathlib.Core.List.{List, [], _∷_}
 use mathlib.Core.Path.{_≡_, refl, _∙_, subst}
-use mathlib.Core.Logic.{_⊎_, inl, inr}
-use lib.Dec.{eqb, ltb}
-use borrow.Author.Tests.{eqb-true}
-use Rattle.base.proofs.Truth.{either}
+use lib.Dec.{ltb}
 use Rattle.base.proofs.Sets.{old1, old3, new3, grow-row}
 use Rattle.rules.specs.declared.Step.{Step}
 use Rattle.rules.specs.declared.Step.the-variants.{Post, Hand}
 use Rattle.rules.specs.Table.{Table}
 use Rattle.rules.specs.State.{State}
 use Rattle.rules.specs.Rules.{rule, answer, next}
-use Rattle.rules.proofs.Answered.{Clear, answered, judged}
+use Rattle.rules.proofs.Answered.{Clear, answered, done, by-step, judged}
 use Rattle.rules.proofs.Clashing.{Apart, apart-test, test-apart}
 use Rattle.rules.proofs.Repeat.{repeated}
 use Rattle.edges.specs.Steps.{after}
@@ -49,12 +46,7 @@ module _ (T : Table) (j p x : ℕ) (sy : (y : ℕ) → T .clash x y ≡ T .clash
   step-settled s I = each (λ st. Clear T s st → Now (rule T s st .effect)) (search (post-settled s I, hand-settled s I))
 
   next-settled : (s : State) → Now s → (st : Step) → Now (next T s st)
-  unfolding next
-  next-settled s I st = go (either (eqb (answer T s st) 0))
-    where
-      go : (eqb (answer T s st) 0 ≡ true) ⊎ (eqb (answer T s st) 0 ≡ false) → Now (next T s st)
-      go (inl e) = rw e (step-settled s I st (answered T s st (eqb-true (answer T s st) 0 e)))
-      go (inr e) = rw e I
+  next-settled s I st = by-step T Now s I st (λ e c. step-settled s I st c)
 
   after-settled : (s : State) → Now s → (steps : List Step) → Now (after T s steps)
   after-settled s I [] = I
@@ -63,11 +55,6 @@ module _ (T : Table) (j p x : ℕ) (sy : (y : ℕ) → T .clash x y ≡ T .clash
 module _ (T : Table) (s : State) (j x : ℕ) (ir : T .clash x x ≡ false) (taken : answer T s (Hand j x) ≡ 0) where
   abbrev clear : Clear T s (Hand j x)
   clear = answered T s (Hand j x) taken
-
-  -- the state after the first hand
-  done : next T s (Hand j x) ≡ rule T s (Hand j x) .effect
-  unfolding next
-  done = rw taken
 
   settled : Settled T j (s .current j) x (rule T s (Hand j x) .effect .posted) (rule T s (Hand j x) .effect .held)
   unfolding rule
@@ -92,12 +79,13 @@ module _ (T : Table) (s : State) (j x : ℕ) (ir : T .clash x x ≡ false) (take
 
   pub second-hand : let u = next T s (Hand j x) in (answer T u (Hand j x) ≡ 0) × (next T u (Hand j x) ≡ u)
   unfolding rule
-  second-hand = let c = clear in rw done (again (rule T s (Hand j x) .effect) settled (search) refl)
+  second-hand = let c = clear in rw (done T s (Hand j x) taken) (again (rule T s (Hand j x) .effect) settled (search) refl)
 
   pub second-hand-later : ((y : ℕ) → T .clash x y ≡ T .clash y x) → (between : List Step) → let u = after T (next T s (Hand j x)) between in
       u .down j ≡ false → u .current j ≡ s .current j → (answer T u (Hand j x) ≡ 0) × (next T u (Hand j x) ≡ u)
   unfolding rule
   second-hand-later sy between d p =
       let c = clear in
-      again (after T (next T s (Hand j x)) between)
-      (after-settled T j (s .current j) x sy (search judged) (search judged) (next T s (Hand j x)) (rw done settled) between) d p
+      let u = next T s (Hand j x) in
+      let held : Settled T j (s .current j) x (u .posted) (u .held) = rw (done T s (Hand j x) taken) settled in
+      again (after T u between) (after-settled T j (s .current j) x sy (search judged) (search judged) u held between) d p

@@ -1,16 +1,15 @@
 -- What a step leaves as it was: the receipt shares, but for share and false share, and each counter of each peer, but
 -- for its close or back.
 use Prim.Native.Nat.{ℕ}
-use mathlib.Core.Bool.{Bool, true, false, cond}
 use mathlib.Core.Path.{_≡_, refl}
-use lib.Dec.{eqb}
 use Rattle.base.specs.Sets.{setAt}
 use Rattle.base.proofs.Sets.{set-elim}
 use Rattle.rules.specs.declared.Step.{Step}
 use Rattle.rules.specs.declared.Step.the-variants.{Share, Close, Back, FalseShare}
 use Rattle.rules.specs.Table.{Table}
 use Rattle.rules.specs.State.{State}
-use Rattle.rules.specs.Rules.{rule, answer, next}
+use Rattle.rules.specs.Rules.{rule, next}
+use Rattle.rules.proofs.Answered.{by-step}
 use Rattle.rules.proofs.Each.{each}
 
 pub record Left (s : State) (st : Step) (t : State) : Type 0 where
@@ -37,9 +36,4 @@ module _ (T : Table) (s : State) where
 
   -- taken or refused
   pub left : (st : Step) → Left s st (next T s st)
-  unfolding next
-  left st = go (eqb (answer T s st) 0)
-    where
-      go : (b : Bool) → Left s st (cond b (rule T s st .effect) s)
-      go true = left-effect st
-      go false = search
+  left st = by-step T (Left s st) s (search) st (λ e c. left-effect st)

@@ -34,8 +34,8 @@ module _ (T : Table) (p U : ℕ) where
     abbrev ItsBoard : Step → Type 0
     ItsBoard st = (j : ℕ) → st ≡ Back j → Peer T j → s .toBack j ≡ p → boardBy T s j p ≡ U
 
-    abbrev Keeps : Step → Type 0
-    Keeps st = ItsBoard st → Clear T s st → BackedIn (rule T s st .effect)
+    abbrev StaysBacked : Step → Type 0
+    StaysBacked st = ItsBoard st → Clear T s st → BackedIn (rule T s st .effect)
 
     -- j backs board B of its period c
     one-backs : (j B : ℕ) → (s .toBack j ≡ p → B ≡ U)
@@ -60,7 +60,7 @@ module _ (T : Table) (p U : ℕ) where
         before : (k q C : ℕ) → backs (s .bag) k q C ≡ true → q ≡ p → C ≡ U
         before k q C b e = I .only k C (subst (λ (a : ℕ). backs (s .bag) k a C ≡ true) e b)
 
-    backed-back : (j : ℕ) → Keeps (Back j)
+    backed-back : (j : ℕ) → StaysBacked (Back j)
     unfolding rule
     backed-back j f c =
         let q = s .toBack j in
@@ -69,23 +69,23 @@ module _ (T : Table) (p U : ℕ) where
         (one-backs j (boardBy T s j q) (λ u. subst (λ (a : ℕ). boardBy T s j a ≡ U) (sym u) (f j refl peer u)))
 
     -- a false backing is a dishonest peer's, and there is none
-    backed-false : (j q B : ℕ) → Keeps (FalseBacking j q B)
+    backed-false : (j q B : ℕ) → StaysBacked (FalseBacking j q B)
     unfolding rule
     backed-false j q B f c = split (A .honest j (is-peer T j (search))) (search)
 
     -- other entries are no backings
-    backed-hash : (j q : ℕ) → Keeps (SendHash j q)
+    backed-hash : (j q : ℕ) → StaysBacked (SendHash j q)
     unfolding rule
     backed-hash j q f c = rw (backs-hash j q (boardBy T s j q) (s .bag)) I
 
-    backed-false-hash : (j q B : ℕ) → Keeps (FalseHash j q B)
+    backed-false-hash : (j q B : ℕ) → StaysBacked (FalseHash j q B)
     unfolding rule
     backed-false-hash j q B f c = rw (backs-hash j q B (s .bag)) I
 
-    backed-publish : (e : ℕ) → Keeps (Publish e)
+    backed-publish : (e : ℕ) → StaysBacked (Publish e)
     unfolding rule
     backed-publish e f c = rw (backs-board (periodOf (entryAt (s .bag) e)) (boardOf (entryAt (s .bag) e)) (s .bag)) I
 
-    pub backed-step : (st : Step) → Keeps st
+    pub backed-step : (st : Step) → StaysBacked st
     unfolding rule
-    backed-step = each Keeps (search (backed-back, backed-false, backed-hash, backed-false-hash, backed-publish))
+    backed-step = each StaysBacked (search (backed-back, backed-false, backed-hash, backed-false-hash, backed-publish))

@@ -24,6 +24,7 @@ use Rattle.rules.specs.Rules.{reply, boardBy}
 use Rattle.rules.specs.Run.{Engine, run}
 use Rattle.rules.specs.Follows.{Follows}
 use Rattle.rules.specs.Valid.{Peer}
+use Rattle.rules.proofs.Bag.{placed}
 use Rattle.rules.proofs.Valid.{always-valid}
 use Rattle.form.specs.Written.{written}
 use Rattle.form.proofs.Written.{read-written, written-bytes}
@@ -34,7 +35,6 @@ use Rattle.liveness.specs.Through.{TheBoard, Publishable}
 use Rattle.liveness.specs.Schedule.{otherThan, fetchAndHash, hashNumber, schedule, Room, InBytes, CanClose, MadeOfBytes}
 use Rattle.liveness.proofs.Places.{ruled, as-rules}
 use Rattle.liveness.proofs.Answers.{call-room}
-use Rattle.liveness.proofs.Entering.{placed}
 use Rattle.liveness.proofs.Settled.{all-enough}
 use Rattle.liveness.proofs.Through.{rules-through}
 use Rattle.liveness.proofs.Parts.{fetch, send, hear, back, Scheduled, scheduled, in-parts}

@@ -1,37 +1,18 @@
--- The bag during an exchange: the number of an entry, and what each of its steps does to it.
-use Prim.Native.Nat.{ℕ, suc, _+_, _≤_, _<_}
+-- The bag during an exchange: what each of its steps does to it.
+use Prim.Native.Nat.{ℕ, _+_, _≤_}
 use native.Mathlib.Omega.{arith}
-use mathlib.Core.Bool.{true, false, cond}
 use mathlib.Core.List.{List, [], _∷_}
-use mathlib.Core.Path.{_≡_, refl, sym, ap}
-use mathlib.Core.Logic.{_⊎_, inl, inr}
+use mathlib.Core.Path.{_≡_, refl, ap}
 use lib.ListN.{length, length-append}
-use Rattle.base.proofs.Truth.{either, false-true}
 use Rattle.rules.specs.declared.Entry.{Entry}
 use Rattle.rules.specs.declared.Entry.the-variants.{Hash, Backing}
 use Rattle.rules.specs.declared.Step.the-variants.{Fetch, SendHash, Hear, Back}
 use Rattle.rules.specs.Table.{Table}
-use Rattle.rules.specs.Bag.{sameEntry, isIn, entryAt, enter}
+use Rattle.rules.specs.Bag.{enter}
 use Rattle.rules.specs.State.{State}
 use Rattle.rules.specs.Rules.{rule, answer, next, boardBy}
 use Rattle.rules.proofs.Answered.{done, by-step}
-use Rattle.rules.proofs.Bag.{eq-of-same, enter-cases}
-use Rattle.liveness.specs.Schedule.{placeIn}
-
--- an entry of a bag stands under its number
-pub placed : (bag : List Entry) (e : Entry) → isIn e bag ≡ true → (placeIn bag e < length bag) × (entryAt bag (placeIn bag e) ≡ e)
-unfolding isIn placeIn
-placed [] e h = false-true h
-placed (a ∷ bag) e h = go (either (sameEntry e a)) (placed bag e)
-  where
-    at : ℕ
-    at = cond (sameEntry e a) 0 (suc (placeIn bag e))
-
-    go : (sameEntry e a ≡ true) ⊎ (sameEntry e a ≡ false)
-        → (isIn e bag ≡ true → (placeIn bag e < length bag) × (entryAt bag (placeIn bag e) ≡ e))
-        → (at < length (a ∷ bag)) × (entryAt (a ∷ bag) at ≡ e)
-    go (inl s) r = rw s (omega arith, sym (eq-of-same e a s))
-    go (inr s) r = let below = r (rw s at h) in rw s (omega (arith, below .0), below .1)
+use Rattle.rules.proofs.Bag.{enter-cases}
 
 -- an entry more, at most
 pub one-entry : (a : Entry) (bag : List Entry) → length (enter a bag) ≤ length bag + 1

@@ -20,7 +20,7 @@ use Rattle.rules.specs.Fields.{fields}
 use Rattle.rules.specs.Rules.{answer, next, boardBy}
 use Rattle.rules.specs.Run.{run}
 use Rattle.rules.specs.Valid.{Peer}
-use Rattle.rules.proofs.Bag.{entered, stays-in}
+use Rattle.rules.proofs.Bag.{placed, entered, stays-in}
 use Rattle.rules.proofs.Valid.{always-valid}
 use Rattle.edges.specs.Exact.{own-hash}
 use Rattle.liveness.specs.Union.{unionBoard}
@@ -30,7 +30,7 @@ use Rattle.liveness.specs.InTurn.{InTurn, CloseInTurn, everyone}
 use Rattle.liveness.specs.Schedule.{fetchAndHash, hearAndBack, hashNumber, schedule, Room}
 use Rattle.liveness.proofs.Places.{ruled, in-list, its-answer, at-start, at-end}
 use Rattle.liveness.proofs.Answers as answers
-use Rattle.liveness.proofs.Entering.{placed, one-entry, fetch-bag, hash-bag, hear-bag, back-bag}
+use Rattle.liveness.proofs.Entering.{one-entry, fetch-bag, hash-bag, hear-bag, back-bag}
 use Rattle.liveness.proofs.Fetches.{Steady, steady}
 use Rattle.liveness.proofs.Parts.{said, walk, cell-lt, cell-row, cell-col, among, among-other, fetch, send, hear, back, Scheduled, scheduled, in-parts}
 

@@ -66,8 +66,8 @@ module _ (T : Table) (p : ℕ) (most : ℕ → ℕ → Bool) where
     abbrev NoDown : Step → Type 0
     NoDown st = (j : ℕ) → Peer T j → st ≡ Down j → ⊥
 
-    abbrev Keeps : Step → Type 0
-    Keeps st = NoDown st → Clear T s st → CalmIn (rule T s st .effect)
+    abbrev StaysCalm : Step → Type 0
+    StaysCalm st = NoDown st → Clear T s st → CalmIn (rule T s st .effect)
 
     known : (k q x l : ℕ) → s .db k q x l ≡ true → q ≡ p → Peer T k → most x l ≡ true
     known k q x l d e h = I .within k x l h (subst (λ (a : ℕ). s .db k a x l ≡ true) e d)
@@ -80,19 +80,19 @@ module _ (T : Table) (p : ℕ) (most : ℕ → ℕ → Bool) where
     }
 
     -- a peer signs in its open period, which is not p
-    calm-sign : (j x : ℕ) → Keeps (Sign j x)
+    calm-sign : (j x : ℕ) → StaysCalm (Sign j x)
     unfolding rule
     calm-sign j x n c = with-one j (s .current j) x j (λ e h. absurd (omega (arith, closed j h)))
 
     -- a signature that is taken is in its signer's database
-    calm-take : (j k q x : ℕ) → Keeps (Take j k q x)
+    calm-take : (j k q x : ℕ) → StaysCalm (Take j k q x)
     unfolding rule
     calm-take j k q x n c =
         let peer : Peer T k = is-peer T k (search) in
         with-one j q x k (λ e h. known k q x k (own k q x (search judged) (A .honest k peer)) e peer)
 
     -- what a fetch adds is in the other's database
-    calm-fetch : (j k q : ℕ) → Keeps (Fetch j k q)
+    calm-fetch : (j k q : ℕ) → StaysCalm (Fetch j k q)
     unfolding rule
     calm-fetch j k q n c = record {
       up = I .up;
@@ -100,14 +100,14 @@ module _ (T : Table) (p : ℕ) (most : ℕ → ℕ → Bool) where
           (λ x l d e g. known k q x l d e (is-peer T k (search))) known i p x l d refl h;
     }
 
-    calm-down : (j : ℕ) → Keeps (Down j)
+    calm-down : (j : ℕ) → StaysCalm (Down j)
     unfolding rule
     calm-down j n c = absurd (n j (is-peer T j (search)) refl)
 
-    calm-up : (j : ℕ) → Keeps (Up j)
+    calm-up : (j : ℕ) → StaysCalm (Up j)
     unfolding rule
     calm-up j n c = record { up = set-elim (λ k b. Peer T k → b ≡ false) j false (s .down) (λ h. refl) (I .up); within = I .within }
 
-    pub calm-step : (st : Step) → Keeps st
+    pub calm-step : (st : Step) → StaysCalm st
     unfolding rule
-    calm-step = each Keeps (search (calm-sign, calm-take, calm-fetch, calm-down, calm-up))
+    calm-step = each StaysCalm (search (calm-sign, calm-take, calm-fetch, calm-down, calm-up))

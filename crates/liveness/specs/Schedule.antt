@@ -1,6 +1,6 @@
 -- The exchange of document 02 as a list of calls: every peer fetches from every other, each sends its hash, each hears
 -- all of these, and each backs.
-use Prim.Native.Nat.{ℕ, suc, _+_, _-_, _*_, _/_, _%_, _≤_, _<_}
+use Prim.Native.Nat.{ℕ, _+_, _-_, _*_, _/_, _%_, _≤_, _<_}
 use mathlib.Core.Bool.{cond}
 use mathlib.Core.List.{List, [], _∷_, _++_}
 use mathlib.Core.Path.{_≡_}
@@ -8,12 +8,11 @@ use lib.Dec.{ltb}
 use lib.ListN.{length}
 use Rattle.base.specs.Bytes.{byteAt}
 use Rattle.base.specs.Tab.{tab}
-use Rattle.rules.specs.declared.Entry.{Entry}
 use Rattle.rules.specs.declared.Entry.the-variants.{Hash}
 use Rattle.rules.specs.declared.Step.{Step}
 use Rattle.rules.specs.declared.Step.the-variants.{Fetch, SendHash, Hear, Back, Publish}
 use Rattle.rules.specs.Table.{Table}
-use Rattle.rules.specs.Bag.{sameEntry, capacity}
+use Rattle.rules.specs.Bag.{placeIn, capacity}
 use Rattle.rules.specs.State.{State}
 use Rattle.rules.specs.Rules.{boardBy}
 use Rattle.form.specs.Written.{written}
@@ -45,11 +44,6 @@ fetchAndHash n p = forOthers n (λ j k. Fetch j k p) ++ forPeers n (λ j. SendHa
 -- each hears all of these, where k's hash has the number `entry k`, and each backs
 abbrev pub hearAndBack : ℕ → (ℕ → ℕ) → List (List ℕ)
 hearAndBack n entry = forPairs n (λ j k. Hear j (entry k)) ++ forPeers n Back
-
--- the number of an entry in the bag
-unfoldable pub placeIn : List Entry → Entry → ℕ
-placeIn [] e = 0
-placeIn (a ∷ bag) e = cond (sameEntry e a) 0 (suc (placeIn bag e))
 
 -- the number of the hash of k's board of p
 abbrev pub hashNumber : Table → State → ℕ → ℕ → ℕ
