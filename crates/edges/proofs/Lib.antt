@@ -1,5 +1,7 @@
 pub mod Table
 pub mod Every
+pub mod Peers
+pub mod Threshold
 pub mod Bytes
 pub mod Premise
 pub mod Worked

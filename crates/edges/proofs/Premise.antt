@@ -8,11 +8,12 @@ use lib.Dec.{leb}
 use borrow.Author.Tests.{le-leb, lt-leb}
 use Rattle.base.specs.Weight.{weight, ones}
 use Rattle.base.proofs.Truth.{eqb-self, eqb-sym}
-use Rattle.header.specs.Header.{leastTable}
+use Rattle.header.specs.Header.{leastThreshold}
+use Rattle.header.proofs.TwoThirds.{least-above, least-exact}
 use Rattle.rules.specs.Demand3.{Premise}
 use Rattle.rules.proofs.Demand3.{counted}
 use Rattle.edges.specs.Cases.{table}
-use Rattle.edges.specs.Premise.{leastThreshold, Barely, PremiseEdges}
+use Rattle.edges.specs.Premise.{Barely, PremiseEdges}
 use Rattle.edges.proofs.Bytes.{met-by-bytes}
 
 -- of the peers 1 to n, with n at most t, all are up to t
@@ -37,15 +38,17 @@ meets n t h P m q e = counted (table n t h P m) refl q e (λ x y. ap not (eqb-sy
 
 barely-meets : (n : ℕ) → 1 ≤ n → Barely n
 barely-meets n l = record {
-  premise = meets n (leastThreshold n) (leastThreshold n) 1 2 (omega arith) (omega (arith, honest));
-  in-range = omega arith;
+  premise = meets n (leastThreshold n) (leastThreshold n) 1 2 (least-above n) (omega (arith, honest));
+  in-range = in-range;
   just-enough = honest;
   some-clash = refl;
 }
   where
+    in-range : leastThreshold n ≤ n
+    in-range = least-exact n n (omega arith)
+
     honest : weight ones n (λ k. leb k (leastThreshold n)) ≡ leastThreshold n
-    honest = up-to n (leastThreshold n) (omega arith)
+    honest = up-to n (leastThreshold n) in-range
 
 pub premise-edges : PremiseEdges
-unfolding leastTable
-premise-edges = record { met = barely-meets; met-by-bytes = met-by-bytes; least = λ n t. omega arith; constants = refl }
+premise-edges = record { met = barely-meets; met-by-bytes = met-by-bytes }

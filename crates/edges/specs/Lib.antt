@@ -3,6 +3,7 @@ pub mod Marked
 pub mod Every
 pub mod Cases
 pub mod Worked
+pub mod Threshold
 pub mod Premise
 pub mod Steps
 pub mod Exact

@@ -1,23 +1,18 @@
--- The rule behind the least thresholds: more than two thirds of the peers. One test is computed over the whole table.
-use Prim.Native.Nat.{ℕ, zero, suc, _*_, _<_, _≤_}
+-- The rule of the least threshold is the least number above two thirds of the peers, however many there are.
+use Prim.Native.Nat.{ℕ, _*_, _<_, _≤_}
 use native.Mathlib.Omega.{arith}
-use mathlib.Core.Bool.{Bool}
-use mathlib.Core.Path.{refl}
-use lib.Dec.{ltb}
-use borrow.Author.Tests.{ltb-true}
-use Rattle.base.specs.Below.{every}
-use Rattle.base.proofs.Below.{every-at}
 use Rattle.header.specs.Header.{leastThreshold}
 
--- the rule for k + 1 peers
-byRule : ℕ → Bool
-byRule k = ltb (2 * suc k) (3 * leastThreshold (suc k))
+-- it is above two thirds of the peers
+pub least-above : (n : ℕ) → 2 * n < 3 * leastThreshold n
+unfolding leastThreshold
+least-above n = omega arith
 
-least-rule : (n : ℕ) → 1 ≤ n → n ≤ 16 → 2 * n < 3 * leastThreshold n
-unfolding byRule every leastThreshold
-least-rule zero low high = absurd (omega arith)
-least-rule (suc k) low high = ltb-true (2 * suc k) (3 * leastThreshold (suc k)) (every-at byRule 16 refl k (omega arith))
+-- and at most every number that is
+pub least-exact : (n t : ℕ) → 2 * n < 3 * t → leastThreshold n ≤ t
+unfolding leastThreshold
+least-exact n t above = omega (arith, above)
 
--- a threshold in range is more than two thirds of the peers
+-- so a threshold in range is above two thirds; this needs no range of n, which callers have all the same
 pub threshold-rule : (n t : ℕ) → 1 ≤ n → n ≤ 16 → leastThreshold n ≤ t → 2 * n < 3 * t
-threshold-rule n t low high least = omega (arith, least-rule n low high)
+threshold-rule n t low high least = omega (arith, least-above n)

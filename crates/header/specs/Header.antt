@@ -1,9 +1,9 @@
 -- The ballot table's header: its fields, the struct of them, and whether each is in range.
-use Prim.Native.Nat.{ℕ, _+_, _-_, _*_, _/_, _^_}
+use Prim.Native.Nat.{ℕ, _+_, _*_, _/_, _^_}
 use mathlib.Core.Bool.{Bool, _&&_}
-use mathlib.Core.List.{List, [], _∷_}
+use mathlib.Core.List.{List}
 use lib.Dec.{leb, eqb}
-use lib.ListN.{length, getD}
+use lib.ListN.{length}
 use Rattle.base.specs.Bytes.{byteAt, between}
 use Rattle.base.specs.Bits.{member}
 use Rattle.base.specs.Weight.{weight, ones}
@@ -49,14 +49,9 @@ isHonest h k = member (h .honest) k
 abbrev pub honestCount : Head → ℕ
 honestCount h = weight ones (h .n) (isHonest h)
 
--- the least threshold for 1 to 16 peers
-unfoldable pub leastTable : List ℕ
-leastTable = 1 ∷ 2 ∷ 3 ∷ 3 ∷ 4 ∷ 5 ∷ 5 ∷ 6 ∷ 7 ∷ 7 ∷ 8 ∷ 9 ∷ 9 ∷ 10 ∷ 11 ∷ 11 ∷ []
-
--- the least threshold for n peers
+-- the least threshold for n peers: twice n divided by three, rounded down, plus one
 unfoldable pub leastThreshold : ℕ → ℕ
-unfolding leastTable
-leastThreshold n = getD leastTable (n - 1) 0
+leastThreshold n = 2 * n / 3 + 1
 
 -- no bit of the set stands above peer n
 abbrev pub noneAbove : ℕ → ℕ → Bool

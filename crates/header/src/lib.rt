@@ -114,15 +114,11 @@ pub fn honest_count(h: Head) -> u8
     count
 }
 
-// The least threshold for 1 to 16 peers.
-const LEAST: [u8; 16] = [1, 2, 3, 3, 4, 5, 5, 6, 7, 7, 8, 9, 9, 10, 11, 11];
-
-// The least threshold for n peers.
+// The least threshold for n peers: twice n divided by three, rounded down, plus one.
 fn least(n: u8) -> u8
-    requires { ⌜ (1 ≤ n) × (n ≤ 16) ⌝ }
     ensures { λ r. ⌜ r ≡ leastThreshold n ⌝ }
 {
-    LEAST[(n - 1) as usize]
+    (2 * (n as u16) / 3 + 1) as u8
 }
 
 // Whether no bit of the set stands above peer n.

@@ -1,8 +1,5 @@
--- The number of peers is judged first: where it is in range the table has an entry for it, which the threshold is judged by.
-use mathlib.Core.Path.{sym, _∙_}
+-- The number of peers is judged first, and then the threshold by the least one for them.
 use borrow.Author.Needs.{needs}
-use borrow.Author.Tests.{not-false}
-use Rattle.base.proofs.Bytes.{between-true}
 use Rattle.header.specs.Header.{thresholdOk}
 use Rattle.base.proofs.Returns.{fails, holds}
 use Rattle.header.proofs.threshold_ok.Statement.{statement}
@@ -12,10 +9,6 @@ returns : tie.Need-returns
 unfolding thresholdOk
 returns c = fails _ (c .before .is-between .ensures) (c .if1 .taken)
 
--- the table has an entry for n peers
-least-requires : tie.Need-least-requires
-least-requires c κs = between-true _ _ _ (sym (c .before .is-between .ensures) ∙ not-false _ (c .if1 .left))
-
 returns-2 : tie.Need-returns-2
 unfolding thresholdOk
 returns-2 c =
@@ -24,4 +17,4 @@ returns-2 c =
     holds _ _ (peers .before .is-between .ensures) (peers .if1 .left) in-range
 
 pub threshold-ok-spec : {M : Type 1} → statement M
-threshold-ok-spec = tie.close (tie.spec (λ c κs. search needs) returns least-requires (λ c κs. search needs) returns-2)
+threshold-ok-spec = tie.close (tie.spec (λ c κs. search needs) returns (λ c κs. search needs) (λ c κs. search needs) returns-2)
