@@ -56,3 +56,23 @@ fn same_refusals() {
     println!("{} tables; answers to fresh {seen:?}", seen.values().sum::<usize>());
     assert!([0, 1, 2, 3, 4, 14].into_iter().all(|answer| seen[&answer] > 100));
 }
+
+/// Every n and t at the head of a table without items, alone and with a byte
+/// more, by which a header that is taken meets the next refusal. The proved
+/// engine goes by document 02's rule, and the other two by document 01's table.
+#[test]
+fn every_threshold() {
+    let mut seen = BTreeMap::<u8, usize>::new();
+    for (n, t) in (0..=255).flat_map(|n| (0..=255).map(move |t| (n, t))) {
+        for text in [&[n, t, 0, 0, 1, 0][..], &[n, t, 0, 0, 1, 0, 0]] {
+            let answer = expected(text, LENGTH);
+            for engine in ENGINES {
+                assert_eq!((engine.check_table)(text), answer, "{}: table {text:?}", engine.name);
+            }
+            *seen.entry(answer).or_default() += 1;
+        }
+    }
+    // One threshold for 1 to 3 peers, two for 4 to 6, and so on; six for 16.
+    let taken = 3 * (1 + 2 + 3 + 4 + 5) + 6;
+    assert_eq!(seen, [(0, taken), (1, 2 * (256 * 256 - taken)), (2, taken)].into());
+}
