@@ -45,7 +45,7 @@ same-header s = rw (same-threshold (peersOf s) (thresholdOf s))
 pub threshold-edges : ThresholdEdges
 threshold-edges = record {
   above = least-above;
-  exact = λ n t more. least-exact n t (omega (arith, more));
+  exact = λ n t. (λ more. least-exact n t (omega (arith, more)), λ from. omega (arith, least-above n, from));
   constants = constants;
   same-header = same-header;
 }

@@ -3,6 +3,7 @@ use Prim.Native.Nat.{ℕ, _-_, _*_, _≤_, _<_}
 use mathlib.Core.Bool.{Bool, _&&_}
 use mathlib.Core.List.{List, [], _∷_}
 use mathlib.Core.Path.{_≡_}
+use mathlib.Core.Logic.{_↔_}
 use lib.Dec.{leb}
 use lib.ListN.{length, getD}
 use Rattle.base.specs.Bytes.{between}
@@ -34,8 +35,8 @@ headerByTable s =
 pub record ThresholdEdges : Type 0 where
   -- however many peers there are, the least threshold is above two thirds of them
   pub above : (n : ℕ) → 2 * n < 3 * leastThreshold n
-  -- and no number above two thirds of them is lower
-  pub exact : (n t : ℕ) → 2 * n < 3 * t → leastThreshold n ≤ t
+  -- and it is exact: the numbers above two thirds of them are those from it on
+  pub exact : (n t : ℕ) → 2 * n < 3 * t ↔ leastThreshold n ≤ t
   -- of 1 to 16 peers it is document 01's number
   pub constants : (n : ℕ) → 1 ≤ n → n ≤ 16 → leastThreshold n ≡ leastByTable n
   -- so every header is judged as it was, whatever its bytes
