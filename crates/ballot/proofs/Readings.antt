@@ -1,4 +1,4 @@
--- Laws of readings: a text reads as an item exactly if it is the item's text.
+-- Laws of readings: a text reads as an item exactly if it is the item's text, and such items are taken.
 use Prim.Native.Nat.{ℕ, _+_, _-_, _≤_, _<_}
 use native.Mathlib.Omega.{arith}
 use mathlib.Core.Bool.{Bool, true, false}
@@ -9,108 +9,175 @@ use lib.Dec.{ltb, eqb}
 use lib.ListN.{length}
 use borrow.Author.Tests.{lt-ltb, le-ltb, ltb-false, eqb-true}
 use Rattle.base.specs.Bytes.{between}
-use Rattle.base.proofs.Truth.{either}
+use Rattle.base.proofs.Truth.{either, false-true, eqb-self}
 use Rattle.base.proofs.Below.{every-at, every-of}
 use Rattle.base.proofs.Bytes.{between-true}
 use Rattle.pairs.specs.Pairs.{textOf}
 use Rattle.ballot.specs.declared.item.Kind.{Kind}
-use Rattle.ballot.specs.declared.item.Kind.the-variants.{Vote, Audit, Cancellation}
+use Rattle.ballot.specs.declared.item.Kind.the-variants.{Vote, Audit, PlacedAudit, Cancellation}
+use Rattle.ballot.specs.declared.item.Audits.{Audits}
+use Rattle.ballot.specs.declared.item.Audits.the-variants.{Bare, Placed, Either}
 use Rattle.ballot.specs.declared.item.Item.{Item}
 use Rattle.ballot.specs.declared.item.Reading.{Reading}
 use Rattle.ballot.specs.declared.item.Reading.the-variants.{Good, Wrong}
-use Rattle.ballot.specs.Item.{kindNumber, ballotOf, kindByte, bodyAt, goodIf, readKind, readItem, bodySize, bodyOk, Says, readingNumber, isItem, itemAt, allItems}
+use Rattle.ballot.specs.Item.{kindNumber, ballotOf, kindByte, bodyAt, placeOf, goodIf, readAudit, readKind, readItem, readingNumber}
+use Rattle.ballot.specs.Item.{isItem, itemAt, allItems, bodySize, bodyOk, takes, ReadAs}
 
 -- by the length, as the machine goes
 
-pub text-short : (text : List ℕ) → length text < bodyAt → Wrong ≡ readItem text
-unfolding readItem
-text-short text l = rw (lt-ltb (length text) bodyAt l)
+module _ (audits : Audits) (text : List ℕ) where
+  pub text-short : length text < bodyAt → Wrong ≡ readItem audits text
+  unfolding readItem
+  text-short l = rw (lt-ltb (length text) bodyAt l)
 
-pub text-long : (text : List ℕ) {r : Reading} → bodyAt ≤ length text
-    → r ≡ readKind (ballotOf text) (kindByte text) (length text - bodyAt) → r ≡ readItem text
-unfolding readItem
-text-long text l r-is = rw (le-ltb (length text) bodyAt l) r-is
+  pub text-long : {r : Reading} → bodyAt ≤ length text
+      → r ≡ readKind audits (ballotOf text) (kindByte text) (length text - bodyAt) (placeOf text) → r ≡ readItem audits text
+  unfolding readItem
+  text-long l r-is = rw (le-ltb (length text) bodyAt l) r-is
 
 -- what is wrong is no item
 wrong : {A : Type 0} {i : Item} → Wrong ≡ Good i → A
 wrong e = let zero-one : _≡_ {A = ℕ} 0 1 = cc in absurd (omega arith)
 
--- a text that reads as an item is the item's text
+-- a text that reads as an item is the item's text, and the item is one of those that are taken
 
-module _ (text : List ℕ) (i : Item) where
-  of-kind : (kind : Kind) (ok : Bool) → kindByte text ≡ kindNumber kind
-      → (ok ≡ true → (length text ≡ bodyAt + bodySize kind) × (bodyOk kind ≡ true))
-      → goodIf ok (ballotOf text) kind ≡ Good i → Says text i
-  of-kind kind true k sized e =
+module _ (audits : Audits) (text : List ℕ) (i : Item) where
+  -- the number of bytes after the kind byte
+  abbrev rest : ℕ
+  rest = length text - bodyAt
+
+  of-kind : (kind : Kind) (ok : Bool) → kindByte text ≡ kindNumber kind → takes audits kind ≡ true
+      → (ok ≡ true → (length text ≡ bodyAt + bodySize kind) × (bodyOk text kind ≡ true))
+      → goodIf ok (ballotOf text) kind ≡ Good i → ReadAs audits text i
+  of-kind kind true k t sized e =
       let read : record { ballot = ballotOf text; kind = kind } ≡ i = cc in
-      subst (Says text) read (record { ballot = refl; kind = k; size = sized refl .0; body = sized refl .1 })
-  of-kind kind false k sized e = wrong e
+      let own = sized refl in
+      subst (ReadAs audits text) read (record { says = record { ballot = refl; kind = k; size = own .0; body = own .1 }; taken = t })
+  of-kind kind false k t sized e = wrong e
 
-  kind-says : bodyAt ≤ length text → readKind (ballotOf text) (kindByte text) (length text - bodyAt) ≡ Good i → Says text i
+  module _ (long : bodyAt ≤ length text) where
+    bare : kindByte text ≡ 2 → takes audits Audit ≡ true → goodIf (eqb rest 0) (ballotOf text) Audit ≡ Good i → ReadAs audits text i
+    bare k t e = of-kind Audit (eqb rest 0) k t (λ o. (omega (arith, eqb-true rest 0 o), refl)) e
+
+    placed : kindByte text ≡ 2 → ((place : ℕ) → takes audits (PlacedAudit place) ≡ true)
+        → goodIf (eqb rest 1) (ballotOf text) (PlacedAudit (placeOf text)) ≡ Good i → ReadAs audits text i
+    placed k t e =
+        let place = placeOf text in
+        of-kind (PlacedAudit place) (eqb rest 1) k (t place) (λ o. (omega (arith, eqb-true rest 1 o), eqb-self place)) e
+
+audit-read : (audits : Audits) (text : List ℕ) (i : Item) → bodyAt ≤ length text → kindByte text ≡ 2
+    → readAudit audits (ballotOf text) (length text - bodyAt) (placeOf text) ≡ Good i → ReadAs audits text i
+audit-read Bare text i long k e = bare Bare text i long k refl e
+audit-read Placed text i long k e = placed Placed text i long k (λ place. refl) e
+audit-read Either text i long k e = go (either (eqb (length text - bodyAt) 0))
+  where
+    go : (eqb (length text - bodyAt) 0 ≡ true) ⊎ (eqb (length text - bodyAt) 0 ≡ false) → ReadAs Either text i
+    go (inl none) = bare Either text i long k refl (rw none (rw none at e))
+    go (inr some) = placed Either text i long k (λ place. refl) (rw some at e)
+
+module _ (audits : Audits) (text : List ℕ) (i : Item) where
+  kind-read : bodyAt ≤ length text → readKind audits (ballotOf text) (kindByte text) (length text - bodyAt) (placeOf text) ≡ Good i
+      → ReadAs audits text i
   unfolding readKind
-  kind-says long e = go (either (eqb k 1)) (either (eqb k 2)) (either (eqb k 3))
+  kind-read long e = go (either (eqb k 1)) (either (eqb k 2)) (either (eqb k 3))
     where
       k : ℕ
       k = kindByte text
 
-      rest : ℕ
-      rest = length text - bodyAt
-
-      nothing : eqb rest 0 ≡ true → (length text ≡ bodyAt) × (true ≡ true)
-      nothing o = (omega (arith, eqb-true rest 0 o), refl)
+      after : ℕ
+      after = length text - bodyAt
 
       go : (eqb k 1 ≡ true) ⊎ (eqb k 1 ≡ false) → (eqb k 2 ≡ true) ⊎ (eqb k 2 ≡ false) → (eqb k 3 ≡ true) ⊎ (eqb k 3 ≡ false)
-          → Says text i
-      go (inl v) a c = of-kind (Vote rest) (between 1 rest 32) (eqb-true k 1 v) (λ o. (omega arith, o)) (rw v at e)
-      go (inr v) (inl a) c = of-kind Audit (eqb rest 0) (eqb-true k 2 a) nothing (rw (v, a) at e)
-      go (inr v) (inr a) (inl c) = of-kind Cancellation (eqb rest 0) (eqb-true k 3 c) nothing (rw (v, a, c) at e)
+          → ReadAs audits text i
+      go (inl v) a c = of-kind audits text i (Vote after) (between 1 after 32) (eqb-true k 1 v) refl (λ o. (omega arith, o)) (rw v at e)
+      go (inr v) (inl a) c = audit-read audits text i long (eqb-true k 2 a) (rw (v, a) at e)
+      go (inr v) (inr a) (inl c) = of-kind audits text i Cancellation (eqb after 0) (eqb-true k 3 c) refl
+          (λ o. (omega (arith, eqb-true after 0 o), refl)) (rw (v, a, c) at e)
       go (inr v) (inr a) (inr c) = wrong (rw (v, a, c) at e)
 
-  pub good-says : readItem text ≡ Good i → Says text i
+  pub good-read : readItem audits text ≡ Good i → ReadAs audits text i
   unfolding readItem
-  good-says e = go (either (ltb (length text) bodyAt))
+  good-read e = go (either (ltb (length text) bodyAt))
     where
-      go : (ltb (length text) bodyAt ≡ true) ⊎ (ltb (length text) bodyAt ≡ false) → Says text i
+      go : (ltb (length text) bodyAt ≡ true) ⊎ (ltb (length text) bodyAt ≡ false) → ReadAs audits text i
       go (inl l) = wrong (rw l at e)
-      go (inr l) = kind-says (ltb-false (length text) bodyAt l) (rw l at e)
+      go (inr l) = kind-read (ltb-false (length text) bodyAt l) (rw l at e)
 
--- and the item's text reads as the item
+-- and the item's text reads as the item, where it is taken
 
-kind-good : (b : ℕ) (kind : Kind) → bodyOk kind ≡ true
-    → readKind b (kindNumber kind) (bodySize kind) ≡ Good (record { ballot = b; kind = kind })
+kind-good : (audits : Audits) (text : List ℕ) (b : ℕ) (kind : Kind) → bodyOk text kind ≡ true → takes audits kind ≡ true
+    → readKind audits b (kindNumber kind) (bodySize kind) (placeOf text) ≡ Good (record { ballot = b; kind = kind })
 unfolding readKind
-kind-good b (Vote n) ok = rw ok
-kind-good b Audit ok = refl
-kind-good b Cancellation ok = refl
+kind-good audits text b (Vote n) ok t = rw ok
+kind-good Bare text b Audit ok t = refl
+kind-good Placed text b Audit ok t = false-true t
+kind-good Either text b Audit ok t = refl
+kind-good Bare text b (PlacedAudit place) ok t = false-true t
+kind-good Placed text b (PlacedAudit place) ok t = rw (eqb-true (placeOf text) place ok)
+kind-good Either text b (PlacedAudit place) ok t = rw (eqb-true (placeOf text) place ok)
+kind-good audits text b Cancellation ok t = refl
 
-pub says-good : (text : List ℕ) (i : Item) → Says text i → readItem text ≡ Good i
-says-good text i says =
+pub read-good : (audits : Audits) (text : List ℕ) (i : Item) → ReadAs audits text i → readItem audits text ≡ Good i
+read-good audits text i read =
+    let says = read .says in
     let rest : length text - bodyAt ≡ bodySize (i .kind) = omega (arith, says .size) in
-    let kind = kind-good (i .ballot) (i .kind) (says .body) in
-    sym (text-long text (omega (arith, says .size)) (rw (says .ballot, says .kind, rest) (sym kind)))
+    let kind = kind-good audits text (i .ballot) (i .kind) (says .body) (read .taken) in
+    sym (text-long audits text (omega (arith, says .size)) (rw (says .ballot, says .kind, rest) (sym kind)))
 
--- a text that reads as an item has at most 37 bytes: a vote's ballot number and kind byte, and 32 preferences
+-- a text that reads as an item, and the item
 
-body-most : (kind : Kind) → bodyOk kind ≡ true → bodySize kind ≤ 32
-body-most (Vote n) ok = between-true 1 n 32 ok .1
-body-most Audit ok = omega arith
-body-most Cancellation ok = omega arith
+pub record Read (audits : Audits) (text : List ℕ) : Type 0 where
+  pub item : Item
+  pub reads : readItem audits text ≡ Good item
 
-pub item-most : (text : List ℕ) → isItem text ≡ true → length text ≤ 37
+pub item-read : (audits : Audits) (text : List ℕ) → isItem audits text ≡ true → Read audits text
 unfolding isItem
-item-most text ok = go (readItem text) refl ok
+item-read audits text ok = go (readItem audits text) refl ok
   where
-    go : (r : Reading) → readItem text ≡ r → eqb (readingNumber r) 0 ≡ true → length text ≤ 37
-    go (Good i) e good = let says = good-says text i e in omega (arith, says .size, body-most (i .kind) (says .body))
+    go : (r : Reading) → readItem audits text ≡ r → eqb (readingNumber r) 0 ≡ true → Read audits text
+    go (Good i) e good = record { item = i; reads = e }
     go Wrong e good = absurd (omega (arith, eqb-true 3 0 good))
+
+pub read-item : (audits : Audits) (text : List ℕ) (i : Item) → readItem audits text ≡ Good i → isItem audits text ≡ true
+unfolding isItem
+read-item audits text i e = rw e
+
+-- whichever audits are taken, it reads as an item where either kind is
+
+all-taken : (kind : Kind) → takes Either kind ≡ true
+all-taken (Vote n) = refl
+all-taken Audit = refl
+all-taken (PlacedAudit place) = refl
+all-taken Cancellation = refl
+
+pub either-item : (audits : Audits) (text : List ℕ) → isItem audits text ≡ true → isItem Either text ≡ true
+either-item audits text ok =
+    let read = item-read audits text ok in
+    let i = read .item in
+    let says = good-read audits text i (read .reads) .says in
+    read-item Either text i (read-good Either text i (record { says = says; taken = all-taken (i .kind) }))
+
+-- it has at most 37 bytes: a vote's ballot number and kind byte, and 32 preferences
+
+body-most : (text : List ℕ) (kind : Kind) → bodyOk text kind ≡ true → bodySize kind ≤ 32
+body-most text (Vote n) ok = between-true 1 n 32 ok .1
+body-most text Audit ok = omega arith
+body-most text (PlacedAudit place) ok = omega arith
+body-most text Cancellation ok = omega arith
+
+pub item-most : (text : List ℕ) → isItem Either text ≡ true → length text ≤ 37
+item-most text ok =
+    let read = item-read Either text ok in
+    let says = good-read Either text (read .item) (read .reads) .says in
+    omega (arith, says .size, body-most text (read .item .kind) (says .body))
 
 -- each of several texts
 
-module _ (s : List ℕ) (at m : ℕ) where
-  pub each-item : allItems s at m ≡ true → (k : ℕ) → k < m → isItem (textOf s at k) ≡ true
+module _ (audits : Audits) (s : List ℕ) (at m : ℕ) where
+  pub each-item : allItems audits s at m ≡ true → (k : ℕ) → k < m → isItem audits (textOf s at k) ≡ true
   unfolding allItems itemAt
-  each-item ok = every-at (itemAt s at) m ok
+  each-item ok = every-at (itemAt audits s at) m ok
 
-  pub all-read : ((k : ℕ) → k < m → isItem (textOf s at k) ≡ true) → allItems s at m ≡ true
+  pub all-read : ((k : ℕ) → k < m → isItem audits (textOf s at k) ≡ true) → allItems audits s at m ≡ true
   unfolding allItems itemAt
-  all-read good = every-of m (itemAt s at) good
+  all-read good = every-of m (itemAt audits s at) good

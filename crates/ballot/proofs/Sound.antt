@@ -13,9 +13,9 @@ use Rattle.pairs.specs.Pairs.{textOf}
 use Rattle.pairs.proofs.Texts.{text-within, text-length}
 use Rattle.twins.proofs.Apart.{same-number}
 use Rattle.ballot.specs.Item.{isItem}
-use Rattle.ballot.specs.Table.{tablePairsOk, itemBelow, itemText, itemsOk, noTwins, tableRefusals, refusal}
+use Rattle.ballot.specs.Table.{auditsOf, tablePairsOk, itemBelow, itemText, itemsOk, noTwins, tableRefusals, refusal}
 use Rattle.ballot.specs.Sound.{Sound}
-use Rattle.ballot.proofs.Readings.{each-item}
+use Rattle.ballot.proofs.Readings.{each-item, either-item}
 
 -- the items
 
@@ -24,9 +24,9 @@ pub text-of : (s : List ℕ) (k : ℕ) → k < itemsOf s → itemText s k ≡ te
 unfolding itemBelow
 text-of s k l = rw (lt-ltb k (itemsOf s) l)
 
-all-good : (s : List ℕ) → itemsOk s ≡ true → (k : ℕ) → k < itemsOf s → isItem (itemText s k) ≡ true
+all-good : (s : List ℕ) → itemsOk s ≡ true → (k : ℕ) → k < itemsOf s → isItem (auditsOf s) (itemText s k) ≡ true
 unfolding itemsOk
-all-good s ok k l = rw (text-of s k l) (each-item s (headerSize s) (itemsOf s) ok k l)
+all-good s ok k l = rw (text-of s k l) (each-item (auditsOf s) s (headerSize s) (itemsOf s) ok k l)
 
 same-item : (s : List ℕ) → noTwins s ≡ true → (i j : ℕ) → i < itemsOf s → j < itemsOf s → itemText s i ≡ itemText s j → i ≡ j
 unfolding noTwins
@@ -56,6 +56,7 @@ sound s e =
       items-most = items-range s header;
       text-within = text-within s (headerSize s) (itemsOf s) pairs;
       text-length = λ k l. ap length (text-of s k l) ∙ text-length s (headerSize s) (itemsOf s) pairs k l;
-      text-good = all-good s items;
+      text-season = all-good s items;
+      text-good = λ k l. either-item (auditsOf s) (itemText s k) (all-good s items k l);
       no-twins = same-item s twins;
     }

@@ -6,8 +6,9 @@ use mathlib.Core.Path.{_≡_}
 use lib.ListN.{length}
 use Rattle.header.specs.Header.{headerSize, peersOf, thresholdOf, periodsOf, itemsOf, headOf, isHonest}
 use Rattle.pairs.specs.Pairs.{offsetOf, sizeOf}
+use Rattle.ballot.specs.declared.item.Audits.the-variants.{Either}
 use Rattle.ballot.specs.Item.{isItem}
-use Rattle.ballot.specs.Table.{itemText}
+use Rattle.ballot.specs.Table.{auditsOf, itemText}
 
 pub record Sound (s : List ℕ) : Type 0 where
   -- n is 1 to 16
@@ -23,9 +24,11 @@ pub record Sound (s : List ℕ) : Type 0 where
   pub periods-most : periodsOf s ≤ 8
   -- m is 0 to 64
   pub items-most : itemsOf s ≤ 64
-  -- each item's text lies in the table, has the length that its pair says, and reads as an item
+  -- each item's text lies in the table, has the length that its pair says, and reads as an item: as one of the table's
+  -- season, and so as one of a sheet, which takes either kind of audits
   pub text-within : (k : ℕ) → k < itemsOf s → offsetOf s (headerSize s) k + sizeOf s (headerSize s) k ≤ length s
   pub text-length : (k : ℕ) → k < itemsOf s → length (itemText s k) ≡ sizeOf s (headerSize s) k
-  pub text-good : (k : ℕ) → k < itemsOf s → isItem (itemText s k) ≡ true
+  pub text-season : (k : ℕ) → k < itemsOf s → isItem (auditsOf s) (itemText s k) ≡ true
+  pub text-good : (k : ℕ) → k < itemsOf s → isItem Either (itemText s k) ≡ true
   -- no two items have the same text
   pub no-twins : (i j : ℕ) → i < itemsOf s → j < itemsOf s → itemText s i ≡ itemText s j → i ≡ j

@@ -4,9 +4,14 @@ use mathlib.Core.Bool.{Bool, not, cond}
 use mathlib.Core.List.{List, [], _∷_}
 use lib.Dec.{ltb}
 use Rattle.base.specs.Refusals.{Refusals, header, pairs, item, twin, numbered, first}
+use Rattle.header.specs.declared.season.Season.{Season}
+use Rattle.header.specs.declared.season.Season.the-variants.{First, Second}
+use Rattle.header.specs.Season.{seasonOf}
 use Rattle.header.specs.Header.{headerSize, itemsOf, headerOk}
 use Rattle.pairs.specs.Pairs.{textOf, pairsOk}
 use Rattle.twins.specs.Twins.{twinless}
+use Rattle.ballot.specs.declared.item.Audits.{Audits}
+use Rattle.ballot.specs.declared.item.Audits.the-variants.{Bare, Placed}
 use Rattle.ballot.specs.Item.{allItems}
 
 -- the table's own pairs are right
@@ -21,9 +26,18 @@ itemBelow s items k = cond (ltb k items) (textOf s (headerSize s) k) []
 abbrev pub itemText : List ℕ → ℕ → List ℕ
 itemText s k = itemBelow s (itemsOf s) k
 
--- every item's text reads as an item
+-- the audits of a season's tables: from the second season on they name their place
+abbrev pub auditsIn : Season → Audits
+auditsIn First = Bare
+auditsIn Second = Placed
+
+-- the audits of a table
+abbrev pub auditsOf : List ℕ → Audits
+auditsOf s = auditsIn (seasonOf s)
+
+-- every item's text reads as an item of the table's season
 unfoldable pub itemsOk : List ℕ → Bool
-itemsOk s = allItems s (headerSize s) (itemsOf s)
+itemsOk s = allItems (auditsOf s) s (headerSize s) (itemsOf s)
 
 -- no two items are twins, document 01's word for two items whose bytes are the same
 unfoldable pub noTwins : List ℕ → Bool

@@ -2,7 +2,9 @@
 // An item's text is handed on as the part of the table that it is; nothing is copied, and no byte is changed.
 // It uses header and pairs to read the table, twins to compare its items, and base.
 ghost use mathlib.Core.Path.{_≡_};
-ghost use Rattle.ballot.specs.Table.{tablePairsOk, itemsOk, noTwins, refusal};
+ghost use Rattle.ballot.specs.Table.{auditsIn, auditsOf, tablePairsOk, itemsOk, noTwins, refusal};
+use crate::item::Audits;
+use header::season::Season;
 
 pub mod item; // an item, read from its text
 pub mod reader; // a reader that stands over the table's bytes
@@ -14,11 +16,33 @@ fn table_pairs_ok(table: &[u8]) -> bool
     pairs::pairs_ok(table, header::header_size(table), header::items(table))
 }
 
-// Whether every item's text reads as an item.
+// The audits of a season's tables.
+fn audits_in(season: Season) -> Audits
+    ensures { λ r. ⌜ r ≡ auditsIn season ⌝ }
+{
+    match season {
+        Season::First => Audits::Bare,
+        Season::Second => Audits::Placed,
+    }
+}
+
+// The audits of a table.
+pub fn audits(table: &[u8]) -> Audits
+    ensures { λ r. ⌜ r ≡ auditsOf (now (table .entry)) ⌝ }
+{
+    audits_in(header::season::season_of(table))
+}
+
+// Whether every item's text reads as an item of the table's season.
 fn items_ok(table: &[u8]) -> bool
     ensures { λ r. ⌜ r ≡ itemsOk (now (table .entry)) ⌝ }
 {
-    item::all_items(table, header::header_size(table), header::items(table))
+    item::all_items(
+        audits(table),
+        table,
+        header::header_size(table),
+        header::items(table),
+    )
 }
 
 // Whether no two items are twins.

@@ -3,7 +3,7 @@ use Prim.Native.Nat.{ℕ, _+_, _<_, _≤_}
 use native.Mathlib.Decide.{decLt}
 use native.Mathlib.Omega.{arith}
 use mathlib.Core.List.{List}
-use mathlib.Core.Path.{_≡_, ap, _∙_}
+use mathlib.Core.Path.{_≡_, sym, ap, _∙_}
 use lib.ListN.{length, getD, set, replicate, length-replicate}
 use lib.Seq.{getD-set-other}
 use borrow.Author.Tests.{le-ltb}
@@ -11,8 +11,10 @@ use Rattle.base.specs.Bytes.{numberAt}
 use Rattle.base.specs.Tab.{FilledTo}
 use Rattle.base.proofs.Bytes.{zeros-at}
 use Rattle.base.proofs.Tab.{length-tab, getD-tab, filled-none, filled-more, filled-all}
-use Rattle.header.specs.Header.{itemsOf}
+use Rattle.header.specs.Header.{headerSize, itemsOf}
+use Rattle.ballot.specs.Item.{ballotOf, ballotIn}
 use Rattle.ballot.specs.Table.{itemBelow}
+use Rattle.ballot.proofs.Sound.{text-of}
 use Rattle.clash.specs.Clash.{maskWidth, ballotAt, ballotsOf, clashMask, clashRows, RowsOf}
 
 -- 64 zeros, none of them filled yet
@@ -51,6 +53,12 @@ one-ballot table ballots i {v} M l v-is =
       filled = filled-more 0 64 (ballotAt table) i ballots v l v-is (M .filled);
       zeros = λ k m. getD-set-other ballots i k v 0 (λ e. omega arith) ∙ M .zeros k (omega arith);
     }
+
+-- item k is what its pair marks out
+pub ballot-here : (table : List ℕ) (k : ℕ) {at v : ℕ} → k < itemsOf table → at ≡ headerSize table → v ≡ ballotIn table at k
+    → v ≡ ballotAt table k
+unfolding ballotAt
+ballot-here table k l at-is v-is = v-is ∙ ap (λ (o : ℕ). ballotIn table o k) at-is ∙ ap ballotOf (sym (text-of table k l))
 
 -- there is no ballot past the items
 no-item : (table : List ℕ) (k : ℕ) → itemsOf table ≤ k → 0 ≡ ballotAt table k

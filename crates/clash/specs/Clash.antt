@@ -1,4 +1,5 @@
--- Clash is document 01's word for two different items of one ballot, neither a cancellation, at least one a vote.
+-- Clash is document 01's word for two different items of one ballot, neither a cancellation, at least one a vote. By
+-- document 02's P5 two audits of one ballot from different places clash too.
 use Prim.Native.Nat.{ℕ, _<_, min}
 use mathlib.Core.Bool.{Bool, true, false, not, _&&_, _||_}
 use mathlib.Core.List.{List}
@@ -9,29 +10,46 @@ use Rattle.base.specs.Bytes.{sameBytes}
 use Rattle.base.specs.Bits.{pack}
 use Rattle.base.specs.Tab.{tab}
 use Rattle.ballot.specs.declared.item.Kind.{Kind}
-use Rattle.ballot.specs.declared.item.Kind.the-variants.{Vote, Audit, Cancellation}
+use Rattle.ballot.specs.declared.item.Kind.the-variants.{Vote, Audit, PlacedAudit, Cancellation}
+use Rattle.ballot.specs.declared.item.Audits.{Audits}
 use Rattle.ballot.specs.declared.item.Item.{Item}
 use Rattle.ballot.specs.declared.item.Reading.{Reading}
 use Rattle.ballot.specs.declared.item.Reading.the-variants.{Good, Wrong}
 use Rattle.header.specs.Header.{itemsOf}
 use Rattle.ballot.specs.Item.{ballotOf, readItem}
-use Rattle.ballot.specs.Table.{itemText}
+use Rattle.ballot.specs.Table.{auditsOf, itemText}
 
 -- the kind is a vote
 abbrev pub isVote : Kind → Bool
 isVote (Vote n) = true
 isVote Audit = false
+isVote (PlacedAudit place) = false
 isVote Cancellation = false
 
 -- the kind is a cancellation
 abbrev pub isCancellation : Kind → Bool
 isCancellation (Vote n) = false
 isCancellation Audit = false
+isCancellation (PlacedAudit place) = false
 isCancellation Cancellation = true
 
--- neither is a cancellation, and at least one is a vote
+-- the kind is an audit from another place than this
+abbrev pub otherPlace : ℕ → Kind → Bool
+otherPlace place (Vote n) = false
+otherPlace place Audit = false
+otherPlace place (PlacedAudit other) = not (eqb place other)
+otherPlace place Cancellation = false
+
+-- both are audits, from different places
+abbrev pub placesDiffer : Kind → Kind → Bool
+placesDiffer (Vote n) b = false
+placesDiffer Audit b = false
+placesDiffer (PlacedAudit place) b = otherPlace place b
+placesDiffer Cancellation b = false
+
+-- neither is a cancellation, and at least one is a vote or they are audits from different places
 abbrev pub kindsClash : Kind → Kind → Bool
-kindsClash a b = not (isCancellation a) && not (isCancellation b) && (isVote a || isVote b)
+kindsClash a b = not (isCancellation a) && (not (isCancellation b) && (isVote a || (isVote b || placesDiffer a b)))
 
 -- they are of one ballot, with kinds that clash
 abbrev pub itemsClash : Item → Item → Bool
@@ -44,12 +62,12 @@ readingsClash (Good a) Wrong = false
 readingsClash (Good a) (Good b) = itemsClash a b
 
 -- the items with these texts clash: the texts differ, and what they say clashes
-unfoldable pub clash : List ℕ → List ℕ → Bool
-clash a b = not (sameBytes a b) && readingsClash (readItem a) (readItem b)
+unfoldable pub clash : Audits → List ℕ → List ℕ → Bool
+clash audits a b = not (sameBytes a b) && readingsClash (readItem audits a) (readItem audits b)
 
--- items i and j of the table clash
+-- items i and j of the table clash, by the rule of its season
 unfoldable pub clashIn : List ℕ → ℕ → ℕ → Bool
-clashIn s i j = clash (itemText s i) (itemText s j)
+clashIn s i j = clash (auditsOf s) (itemText s i) (itemText s j)
 
 -- the number of items that a mask of 64 bits has a bit for: all of them, in a table that is not refused
 abbrev pub maskWidth : List ℕ → ℕ

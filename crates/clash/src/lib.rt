@@ -1,8 +1,9 @@
 // When two items clash: by their kinds, their texts and their numbers; and the rows of clashes, made once for a table.
 // It uses ballot to read items, header for their number, and base.
 ghost use mathlib.Core.Path.{_≡_};
-ghost use Rattle.clash.specs.Clash.{isVote, isCancellation, kindsClash, itemsClash, readingsClash};
-ghost use Rattle.clash.specs.Clash.{clash, clashIn};
+ghost use Rattle.clash.specs.Clash.{isVote, isCancellation, otherPlace, placesDiffer, kindsClash};
+ghost use Rattle.clash.specs.Clash.{itemsClash, readingsClash, clash, clashIn};
+use ballot::item::Audits;
 use ballot::item::Item;
 use ballot::item::Kind;
 use ballot::item::Reading;
@@ -16,6 +17,7 @@ fn is_vote(k: Kind) -> bool
     match k {
         Kind::Vote(_) => true,
         Kind::Audit => false,
+        Kind::PlacedAudit(_) => false,
         Kind::Cancellation => false,
     }
 }
@@ -27,11 +29,36 @@ fn is_cancellation(k: Kind) -> bool
     match k {
         Kind::Vote(_) => false,
         Kind::Audit => false,
+        Kind::PlacedAudit(_) => false,
         Kind::Cancellation => true,
     }
 }
 
-// Whether neither is a cancellation, and at least one is a vote.
+// Whether the kind is an audit from another place than this.
+fn other_place(place: u8, k: Kind) -> bool
+    ensures { λ r. ⌜ r ≡ otherPlace place k ⌝ }
+{
+    match k {
+        Kind::Vote(_) => false,
+        Kind::Audit => false,
+        Kind::PlacedAudit(other) => place != other,
+        Kind::Cancellation => false,
+    }
+}
+
+// Whether both are audits, from different places.
+fn places_differ(a: Kind, b: Kind) -> bool
+    ensures { λ r. ⌜ r ≡ placesDiffer a b ⌝ }
+{
+    match a {
+        Kind::Vote(_) => false,
+        Kind::Audit => false,
+        Kind::PlacedAudit(place) => other_place(place, b),
+        Kind::Cancellation => false,
+    }
+}
+
+// Whether neither is a cancellation, and at least one is a vote or they are audits from different places.
 fn kinds_clash(a: Kind, b: Kind) -> bool
     ensures { λ r. ⌜ r ≡ kindsClash a b ⌝ }
 {
@@ -44,7 +71,10 @@ fn kinds_clash(a: Kind, b: Kind) -> bool
     if is_vote(a) {
         return true;
     }
-    is_vote(b)
+    if is_vote(b) {
+        return true;
+    }
+    places_differ(a, b)
 }
 
 // Whether they are of one ballot, with kinds that clash.
@@ -73,13 +103,16 @@ fn readings_clash(x: Reading, y: Reading) -> bool
 }
 
 // Whether the items with these texts clash.
-pub fn clashes(a: &[u8], b: &[u8]) -> bool
-    ensures { λ r. ⌜ r ≡ clash (now (a .entry)) (now (b .entry)) ⌝ }
+pub fn clashes(audits: Audits, a: &[u8], b: &[u8]) -> bool
+    ensures { λ r. ⌜ r ≡ clash audits (now (a .entry)) (now (b .entry)) ⌝ }
 {
     if base::same(a, b) {
         return false;
     }
-    readings_clash(ballot::item::read_item(a), ballot::item::read_item(b))
+    readings_clash(
+        ballot::item::read_item(audits, a),
+        ballot::item::read_item(audits, b),
+    )
 }
 
 // Whether items i and j of the table clash.
@@ -87,6 +120,7 @@ pub fn clash_in(table: &[u8], i: u8, j: u8) -> bool
     ensures { λ r. ⌜ r ≡ clashIn (now (table .entry)) i j ⌝ }
 {
     clashes(
+        ballot::audits(table),
         ballot::reader::item_at(table, i),
         ballot::reader::item_at(table, j),
     )

@@ -29,15 +29,16 @@ fn ballot_at(table: &[u8], k: u8) -> u32
     ballot::item::ballot(ballot::reader::item_at(table, k))
 }
 
-// The ballot numbers of items 0 to 63; 0 past the items that there are.
+// The ballot numbers of items 0 to 63; 0 past the items that there are. The header is read once for all.
 fn ballots_of(table: &[u8]) -> [u32; 64]
     ensures { λ r. ⌜ r ≡ ballotsOf (now (table .entry)) ⌝ }
 {
     let width = mask_width(table);
+    let at = header::header_size(table);
     let mut ballots = [0; 64];
     let mut k: u8 = 0;
     while k < width {
-        ballots[k as usize] = ballot_at(table, k);
+        ballots[k as usize] = ballot::item::ballot_in(table, at, k);
         k += 1;
     }
     ballots

@@ -1,5 +1,6 @@
 -- Byte tables that just meet demand 3's premise: computed over all numbers of peers at once.
 use Prim.Native.Nat.{ℕ, _+_, _≤_}
+use native.Mathlib.Omega.{arith}
 use mathlib.Core.Bool.{Bool, true, _&&_}
 use mathlib.Core.Path.{_≡_, refl, sym, _∙_}
 use lib.Dec.{eqb}
@@ -12,6 +13,7 @@ use Rattle.base.specs.Bytes.{numberAt, part, sameBytes}
 use Rattle.base.proofs.Truth.{and-l, and-r}
 use Rattle.header.specs.Header.{headOf, thresholdOf, honestCount}
 use Rattle.header.specs.Header.{headerSize, fieldOf, leastThreshold, thresholdOk, fieldsOk, headerOk}
+use Rattle.header.proofs.Seasons.{starts-otherwise, first-field}
 use Rattle.pairs.specs.Pairs.{endBefore, startsAtEnd, pairsFit, pairsOk}
 use Rattle.ballot.specs.Item.{readKind, readItem, isItem, itemAt, allItems}
 use Rattle.twins.specs.Twins.{differ, newAt, twinless}
@@ -41,9 +43,8 @@ unfolding refusal headerOk headerSize fieldOf fieldsOk thresholdOk leastThreshol
     noTwins twinless newAt differ clashIn clash readItem readKind first every numberAt part sameBytes bit member weight
 all-good = refl
 
-read-back : (n : ℕ) → thresholdOf (barelyBytes n) ≡ leastByTable n
-unfolding fieldOf
-read-back n = refl
+read-back : (n : ℕ) → 1 ≤ n → thresholdOf (barelyBytes n) ≡ leastByTable n
+read-back n l = first-field (barelyBytes n) (starts-otherwise (barelyBytes n) refl (λ e. omega (arith, e, l))) 1
 
 pub met-by-bytes : (n : ℕ) → 1 ≤ n → n ≤ 16 → BarelyBytes n
 met-by-bytes n l m =
@@ -51,7 +52,7 @@ met-by-bytes n l m =
     let rest = and-r (taken n) _ ok in
     record {
       taken = eqb-true (refusal (barelyBytes n)) 0 (and-l _ (just n && clashes n) ok);
-      least = read-back n ∙ sym (constants n l m);
+      least = read-back n l ∙ sym (constants n l m);
       just-enough = eqb-true (honestCount (headOf (barelyBytes n))) (thresholdOf (barelyBytes n)) (and-l _ (clashes n) rest);
       some-clash = and-r (just n) _ rest;
     }

@@ -16,10 +16,13 @@ use Rattle.header.specs.Header.{peersOf, thresholdOf, headerOk}
 use Rattle.header.proofs.Ranges.{peers-range, threshold-range}
 use Rattle.header.proofs.TwoThirds.{threshold-rule}
 use Rattle.ballot.specs.declared.item.Kind.{Kind}
-use Rattle.ballot.specs.declared.item.Kind.the-variants.{Vote, Audit, Cancellation}
+use Rattle.ballot.specs.declared.item.Kind.the-variants.{Vote, Audit, PlacedAudit, Cancellation}
+use Rattle.ballot.specs.declared.item.Audits.{Audits}
+use Rattle.ballot.specs.declared.item.Audits.the-variants.{Bare, Placed, Either}
 use Rattle.ballot.specs.declared.item.Item.{Item}
-use Rattle.ballot.specs.Item.{ballotOf, kindByte, goodIf, readKind, readItem, readingNumber}
+use Rattle.ballot.specs.Item.{ballotOf, kindByte, placeOf, goodIf, readAudit, readKind, readItem, readingNumber}
 use Rattle.ballot.specs.Table.{refusal}
+use Rattle.ballot.proofs.Readings.{text-short}
 use Rattle.clash.specs.Clash.{kindsClash, itemsClash}
 use Rattle.edges.specs.Every.{EveryTable}
 
@@ -28,9 +31,13 @@ above table ok =
     let n = peers-range table ok in
     threshold-rule (peersOf table) (thresholdOf table) (n .0) (n .1) (threshold-range table ok .0)
 
-two-thirds-refused : (table : List ℕ) → 3 * thresholdOf table ≤ 2 * peersOf table → refusal table ≡ 1
+-- the header is judged first
+pub header-refused : (table : List ℕ) → headerOk table ≡ false → refusal table ≡ 1
 unfolding refusal first
-two-thirds-refused table low = rw (is-false (headerOk table) (λ ok. omega (arith, low, above table ok)))
+header-refused table bad = rw bad
+
+two-thirds-refused : (table : List ℕ) → 3 * thresholdOf table ≤ 2 * peersOf table → refusal table ≡ 1
+two-thirds-refused table low = header-refused table (is-false (headerOk table) (λ ok. omega (arith, low, above table ok)))
 
 -- the number of a reading that is good where a test holds
 good-number : (ok : Bool) (ballot : ℕ) (kind : Kind) → readingNumber (goodIf ok ballot kind) ≡ cond ok 0 3
@@ -45,43 +52,68 @@ same-size low high long l = iff _ _
     (λ e. let b = between-true (5 + low) long (5 + high) e in and-i _ _ (le-leb low (long - 5) (omega (arith, b .0)))
     (le-leb (long - 5) high (omega (arith, b .1))))
 
-vote-sizes : (text : List ℕ) → kindByte text ≡ 1 → readingNumber (readItem text) ≡ cond (between 6 (length text) 37) 0 3
+-- a test on the length that no text shorter than five bytes passes decides, if it does so for the longer ones
+sizes : (audits : Audits) (text : List ℕ) (ok : Bool) → (length text < 5 → ok ≡ false)
+    → (5 ≤ length text → readingNumber (readItem audits text) ≡ cond ok 0 3) → readingNumber (readItem audits text) ≡ cond ok 0 3
+sizes audits text ok short long = go (either (ltb (length text) 5))
+  where
+    go : (ltb (length text) 5 ≡ true) ⊎ (ltb (length text) 5 ≡ false) → readingNumber (readItem audits text) ≡ cond ok 0 3
+    go (inl e) = let l = ltb-true (length text) 5 e in ap readingNumber (sym (text-short audits text l)) ∙ rw (short l)
+    go (inr e) = long (ltb-false (length text) 5 e)
+
+vote-read : (audits : Audits) (text : List ℕ) → kindByte text ≡ 1 → 5 ≤ length text
+    → readingNumber (readItem audits text) ≡ cond (between 1 (length text - 5) 32) 0 3
 unfolding readItem readKind
-vote-sizes text k = go (either (ltb (length text) 5))
-  where
-    go : (ltb (length text) 5 ≡ true) ⊎ (ltb (length text) 5 ≡ false)
-        → readingNumber (readItem text) ≡ cond (between 6 (length text) 37) 0 3
-    go (inl e) =
-        let small = ltb-true (length text) 5 e in
-        rw (e, is-false (between 6 (length text) 37) (λ b. omega (arith, small, between-true 6 (length text) 37 b .0)))
-    go (inr e) = rw (e, k)
-        (good-number (between 1 (length text - 5) 32) _ _ ∙ ap (λ (b : Bool). cond b 0 3)
-        (same-size 1 32 (length text) (ltb-false (length text) 5 e)))
+vote-read audits text k l = rw (le-ltb (length text) 5 l, k) (good-number (between 1 (length text - 5) 32) _ _)
 
--- an audit and a cancellation end with their kind byte
-end-sizes : (text : List ℕ) (kind : Kind) → (5 ≤ length text → readItem text ≡ goodIf (eqb (length text - 5) 0) (ballotOf text) kind)
-    → readingNumber (readItem text) ≡ cond (eqb (length text) 5) 0 3
-unfolding readItem
-end-sizes text kind good = go (either (ltb (length text) 5))
-  where
-    same : 5 ≤ length text → eqb (length text - 5) 0 ≡ eqb (length text) 5
-    same l = iff _ _ (λ e. eq-eqb (length text) 5 (omega (arith, eqb-true (length text - 5) 0 e)))
-        (λ e. eq-eqb (length text - 5) 0 (omega (arith, eqb-true (length text) 5 e)))
+vote-sizes : (audits : Audits) (text : List ℕ) → kindByte text ≡ 1
+    → readingNumber (readItem audits text) ≡ cond (between 6 (length text) 37) 0 3
+vote-sizes audits text k = sizes audits text _
+    (λ l. is-false (between 6 (length text) 37) (λ b. omega (arith, l, between-true 6 (length text) 37 b .0)))
+    (λ l. vote-read audits text k l ∙ ap (λ (b : Bool). cond b 0 3) (same-size 1 32 (length text) l))
 
-    go : (ltb (length text) 5 ≡ true) ⊎ (ltb (length text) 5 ≡ false) → readingNumber (readItem text) ≡ cond (eqb (length text) 5) 0 3
-    go (inl e) = rw (e, is-false (eqb (length text) 5) (λ b. omega (arith, ltb-true (length text) 5 e, eqb-true (length text) 5 b)))
-    go (inr e) =
-        let l = ltb-false (length text) 5 e in
-        ap readingNumber (good l) ∙ good-number (eqb (length text - 5) 0) _ kind ∙ ap (λ (b : Bool). cond b 0 3) (same l)
+-- an item of which n bytes stand after the kind byte
+end-sizes : (audits : Audits) (text : List ℕ) (kind : Kind) (n : ℕ)
+    → (5 ≤ length text → readItem audits text ≡ goodIf (eqb (length text - 5) n) (ballotOf text) kind)
+    → readingNumber (readItem audits text) ≡ cond (eqb (length text) (5 + n)) 0 3
+end-sizes audits text kind n good = sizes audits text _
+    (λ l. is-false (eqb (length text) (5 + n)) (λ b. omega (arith, l, eqb-true (length text) (5 + n) b)))
+    (λ l. ap readingNumber (good l) ∙ good-number (eqb (length text - 5) n) _ kind ∙ ap (λ (b : Bool). cond b 0 3) (same l))
+  where
+    same : 5 ≤ length text → eqb (length text - 5) n ≡ eqb (length text) (5 + n)
+    same l = iff _ _ (λ e. eq-eqb (length text) (5 + n) (omega (arith, eqb-true (length text - 5) n e)))
+        (λ e. eq-eqb (length text - 5) n (omega (arith, eqb-true (length text) (5 + n) e)))
 
 module _ (text : List ℕ) where
-  audit-read : kindByte text ≡ 2 → 5 ≤ length text → readItem text ≡ goodIf (eqb (length text - 5) 0) (ballotOf text) Audit
+  audit-read : (audits : Audits) → kindByte text ≡ 2 → 5 ≤ length text
+      → readItem audits text ≡ readAudit audits (ballotOf text) (length text - 5) (placeOf text)
   unfolding readItem readKind
-  audit-read k l = rw (le-ltb (length text) 5 l, k)
+  audit-read audits k l = rw (le-ltb (length text) 5 l, k)
 
-  cancellation-read : kindByte text ≡ 3 → 5 ≤ length text → readItem text ≡ goodIf (eqb (length text - 5) 0) (ballotOf text) Cancellation
+  cancellation-read : (audits : Audits) → kindByte text ≡ 3 → 5 ≤ length text
+      → readItem audits text ≡ goodIf (eqb (length text - 5) 0) (ballotOf text) Cancellation
   unfolding readItem readKind
-  cancellation-read k l = rw (le-ltb (length text) 5 l, k)
+  cancellation-read audits k l = rw (le-ltb (length text) 5 l, k)
+
+  -- of either length: one test or the other
+  either-sizes : kindByte text ≡ 2 → readingNumber (readItem Either text) ≡ cond (between 5 (length text) 6) 0 3
+  either-sizes k = sizes Either text _
+      (λ l. is-false (between 5 (length text) 6) (λ b. omega (arith, l, between-true 5 (length text) 6 b .0)))
+      (λ l. ap readingNumber (audit-read Either k l) ∙ go l (either (eqb (length text - 5) 0)))
+    where
+      six : 5 ≤ length text → (length text ≡ 5 → ⊥) → eqb (length text - 5) 1 ≡ between 5 (length text) 6
+      six l more = iff _ _
+          (λ e. let n = eqb-true (length text - 5) 1 e in and-i _ _ (le-leb 5 (length text) l) (le-leb (length text) 6 (omega (arith, n))))
+          (λ e. eq-eqb (length text - 5) 1 (omega (arith, more, between-true 5 (length text) 6 e .1)))
+
+      go : (l : 5 ≤ length text) → (eqb (length text - 5) 0 ≡ true) ⊎ (eqb (length text - 5) 0 ≡ false)
+          → readingNumber (readAudit Either (ballotOf text) (length text - 5) (placeOf text)) ≡ cond (between 5 (length text) 6) 0 3
+      go l (inl none) =
+          let five : length text ≡ 5 = omega (arith, eqb-true (length text - 5) 0 none) in
+          rw (none, five)
+      go l (inr some) =
+          let more : (length text ≡ 5 → ⊥) = λ e. split (eq-eqb (length text - 5) 0 (omega (arith, e))) some in
+          rw some (good-number (eqb (length text - 5) 1) _ _ ∙ ap (λ (b : Bool). cond b 0 3) (six l more))
 
 -- a vote beside another kind, on one ballot
 beside : (a b : Item) → a .ballot ≡ b .ballot → kindsClash (a .kind) (b .kind) ≡ true → itemsClash a b ≡ true
@@ -90,11 +122,13 @@ beside a b e k = and-i _ _ (eq-eqb (a .ballot) (b .ballot) e) k
 kinds : (n : ℕ) (kind : Kind) → (kind ≡ Cancellation → ⊥) → (kindsClash (Vote n) kind ≡ true) × (kindsClash kind (Vote n) ≡ true)
 kinds n (Vote m) d = (refl, refl)
 kinds n Audit d = (refl, refl)
+kinds n (PlacedAudit p) d = (refl, refl)
 kinds n Cancellation d = absurd (d refl)
 
 none-with : (kind : Kind) → (kindsClash Cancellation kind ≡ false) × (kindsClash kind Cancellation ≡ false)
 none-with (Vote m) = (refl, refl)
 none-with Audit = (refl, refl)
+none-with (PlacedAudit p) = (refl, refl)
 none-with Cancellation = (refl, refl)
 
 apart : (a b : Item) → kindsClash (a .kind) (b .kind) ≡ false → itemsClash a b ≡ false
@@ -103,9 +137,11 @@ apart a b k = is-false (itemsClash a b) (λ t. split (and-r (eqb (a .ballot) (b 
 pub every-table : EveryTable
 every-table = record {
   two-thirds = two-thirds-refused;
-  votes = λ text n k. vote-sizes text k;
-  audits = λ text k. end-sizes text Audit (audit-read text k);
-  cancellations = λ text k. end-sizes text Cancellation (cancellation-read text k);
+  votes = λ audits text n k. vote-sizes audits text k;
+  audits = λ text k. end-sizes Bare text Audit 0 (audit-read text Bare k);
+  placed-audits = λ text k. end-sizes Placed text (PlacedAudit (placeOf text)) 1 (audit-read text Placed k);
+  either-audits = either-sizes;
+  cancellations = λ audits text k. end-sizes audits text Cancellation 0 (cancellation-read text audits k);
   votes-clash = λ a b n e k d. let q = kinds n (b .kind) d in (beside a b e (rw k (q .0)), beside b a (sym e) (rw k (q .1)));
   cancellations-do-not = λ a b k. let q = none-with (b .kind) in (apart a b (rw k (q .0)), apart b a (rw k (q .1)));
   audits-do-not = λ a b k l. apart a b (rw (k, l));

@@ -4,6 +4,7 @@ pub mod Peers
 pub mod Threshold
 pub mod Bytes
 pub mod Premise
+pub mod Seasons
 pub mod Worked
 pub mod Tests
 pub mod Hand

@@ -12,6 +12,7 @@ use Rattle.twins.specs.Twins.{differ, newAt, twinless}
 use Rattle.ballot.specs.Table.{tablePairsOk, itemBelow, itemsOk, noTwins, refusal}
 use Rattle.clash.specs.Clash.{clash, clashIn, clashMask}
 use Rattle.edges.specs.Marked.{TableEdges, TableCases}
+use Rattle.edges.specs.Seasons.{SeasonCases}
 
 pub table-edges : TableEdges
 unfolding refusal headerOk headerSize fieldOf fieldsOk thresholdOk leastThreshold tablePairsOk pairsOk pairsFit startsAtEnd endBefore
@@ -68,4 +69,45 @@ table-cases =
       third-with-none = refl;
       case-R-taken = refl;
       case-R-honest = refl;
+    }
+
+pub season-cases : SeasonCases
+unfolding refusal headerOk headerSize fieldOf fieldsOk thresholdOk leastThreshold tablePairsOk pairsOk pairsFit startsAtEnd endBefore
+    itemBelow itemsOk allItems itemAt isItem noTwins twinless newAt differ clashMask clashIn clash readItem readKind first every numberAt
+    part sameBytes bit member pack weight
+season-cases =
+    record {
+      eight-bytes = refl;
+      seven-bytes = refl;
+      two-bytes = refl;
+      zero-zero = refl;
+      zero-one = refl;
+      zero-three = refl;
+      two-then-two = refl;
+      three-peers-threshold-2 = refl;
+      three-peers-threshold-3 = refl;
+      sixteen-peers-threshold-10 = refl;
+      sixteen-peers-threshold-11 = refl;
+      one-byte-more = refl;
+      first-offset-10 = refl;
+      vote-of-5-bytes = refl;
+      vote-of-6-bytes = refl;
+      vote-of-37-bytes = refl;
+      vote-of-38-bytes = refl;
+      audit-of-5-bytes = refl;
+      audit-of-6-bytes = refl;
+      place-255 = refl;
+      audit-of-7-bytes = refl;
+      cancellation-of-5-bytes = refl;
+      cancellation-of-6-bytes = refl;
+      one-place = refl;
+      two-places = refl;
+      three-honest = refl;
+      first-clashes-with-second = refl;
+      second-clashes-with-first = refl;
+      vote-and-audit-clash = refl;
+      audit-and-vote-clash = refl;
+      audit-and-cancellation-do-not = refl;
+      other-ballot-does-not = refl;
+      none-in-the-first = refl;
     }

@@ -8,6 +8,8 @@ use lib.ListN.{length}
 use Rattle.base.specs.Bytes.{between}
 use Rattle.header.specs.Header.{peersOf, thresholdOf}
 use Rattle.ballot.specs.declared.item.Kind.the-variants.{Vote, Audit, Cancellation}
+use Rattle.ballot.specs.declared.item.Audits.{Audits}
+use Rattle.ballot.specs.declared.item.Audits.the-variants.{Bare, Placed, Either}
 use Rattle.ballot.specs.declared.item.Item.{Item}
 use Rattle.ballot.specs.Item.{kindByte, kindNumber, readItem, readingNumber}
 use Rattle.ballot.specs.Table.{refusal}
@@ -16,15 +18,20 @@ use Rattle.clash.specs.Clash.{itemsClash}
 pub record EveryTable : Type 0 where
   -- a threshold of two thirds of the peers, or of fewer, is refused with 1, whatever else the table says
   pub two-thirds : (table : List ℕ) → 3 * thresholdOf table ≤ 2 * peersOf table → refusal table ≡ 1
-  -- a vote is taken exactly if it has 6 to 37 bytes, an audit and a cancellation if they have 5
-  pub votes : (text : List ℕ) (n : ℕ) → kindByte text ≡ kindNumber (Vote n)
-      → readingNumber (readItem text) ≡ cond (between 6 (length text) 37) 0 3
+  -- a vote is taken exactly if it has 6 to 37 bytes, a cancellation if it has 5; an audit if it has 5 in tables of the
+  -- first season, 6 in those of the second, and either in a sheet
+  pub votes : (audits : Audits) (text : List ℕ) (n : ℕ) → kindByte text ≡ kindNumber (Vote n)
+      → readingNumber (readItem audits text) ≡ cond (between 6 (length text) 37) 0 3
   pub audits : (text : List ℕ) → kindByte text ≡ kindNumber Audit
-      → readingNumber (readItem text) ≡ cond (eqb (length text) 5) 0 3
-  pub cancellations : (text : List ℕ) → kindByte text ≡ kindNumber Cancellation
-      → readingNumber (readItem text) ≡ cond (eqb (length text) 5) 0 3
+      → readingNumber (readItem Bare text) ≡ cond (eqb (length text) 5) 0 3
+  pub placed-audits : (text : List ℕ) → kindByte text ≡ kindNumber Audit
+      → readingNumber (readItem Placed text) ≡ cond (eqb (length text) 6) 0 3
+  pub either-audits : (text : List ℕ) → kindByte text ≡ kindNumber Audit
+      → readingNumber (readItem Either text) ≡ cond (between 5 (length text) 6) 0 3
+  pub cancellations : (audits : Audits) (text : List ℕ) → kindByte text ≡ kindNumber Cancellation
+      → readingNumber (readItem audits text) ≡ cond (eqb (length text) 5) 0 3
   -- of two items of one ballot, a vote clashes with any that is no cancellation, whichever stands first; a
-  -- cancellation with none; nor two audits
+  -- cancellation with none; nor two audits without a place
   pub votes-clash : (a b : Item) (n : ℕ) → a .ballot ≡ b .ballot → a .kind ≡ Vote n → (b .kind ≡ Cancellation → ⊥)
       → (itemsClash a b ≡ true) × (itemsClash b a ≡ true)
   pub cancellations-do-not : (a b : Item) → a .kind ≡ Cancellation → (itemsClash a b ≡ false) × (itemsClash b a ≡ false)

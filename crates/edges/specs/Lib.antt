@@ -5,6 +5,8 @@ pub mod Cases
 pub mod Worked
 pub mod Threshold
 pub mod Premise
+pub mod FirstSeason
+pub mod Seasons
 pub mod Steps
 pub mod Exact
 pub mod Edges

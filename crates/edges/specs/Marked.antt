@@ -5,8 +5,8 @@ use mathlib.Core.Path.{_≡_}
 use lib.ListN.{replicate}
 use Rattle.header.specs.Header.{headOf, honestCount}
 use Rattle.ballot.specs.Table.{refusal}
-use Rattle.clash.specs.Clash.{clash, clashMask}
-use Rattle.edges.specs.Tables.{empty, single, item, vote, audit, cancellation, twoFives, three, caseR}
+use Rattle.clash.specs.Clash.{clashMask}
+use Rattle.edges.specs.Tables.{empty, single, item, vote, audit, cancellation, clash, twoFives, three, caseR}
 
 -- the table's marked cases: 0 is taken, 1 header, 3 item
 pub record TableEdges : Type 0 where

@@ -1,7 +1,10 @@
--- Small ballot tables, of which the cases are made.
+-- Small ballot tables of the first season, of which the cases are made.
 use Prim.Native.Nat.{ℕ, _-_, _/_, _%_, _^_}
+use mathlib.Core.Bool.{Bool}
 use mathlib.Core.List.{List, [], _∷_, _++_}
 use lib.ListN.{length}
+use Rattle.ballot.specs.declared.item.Audits.the-variants.{Bare}
+use Rattle.clash.specs.Clash as rule
 
 -- n peers with threshold t, no honest peer, one period and no items
 abbrev pub empty : ℕ → ℕ → List ℕ
@@ -23,6 +26,10 @@ audit = item 2 []
 
 abbrev pub cancellation : List ℕ
 cancellation = item 3 []
+
+-- two items with these texts clash in such a table
+abbrev pub clash : List ℕ → List ℕ → Bool
+clash a b = rule.clash Bare a b
 
 -- one peer, one period and two items with texts of five bytes
 abbrev pub twoFives : List ℕ → List ℕ

@@ -5,4 +5,5 @@ pub mod Totals
 pub mod Sheets
 pub mod TotalsWorked
 pub mod Worked
+pub mod Seasons
 pub mod SheetsWorked

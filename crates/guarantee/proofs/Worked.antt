@@ -25,9 +25,10 @@ use Rattle.rules.specs.Run.{backingNamed, seenWith, runFrom, after, answersFrom
 use Rattle.engine.specs.Engine.{rulesTable}
 use Rattle.edges.specs.Tables as tables
 use Rattle.edges.specs.Premise.{barelyBytes}
+use Rattle.edges.specs.Seasons.{twoPlaces}
 use Rattle.edges.specs.Cases.{Worked, caseR, twoFaced}
 use Rattle.edges.specs.Worked.{RulesEnd, RulesIdeally}
-use Rattle.edges.proofs.Table.{table-cases}
+use Rattle.edges.proofs.Table.{table-cases, season-cases}
 use Rattle.edges.proofs.Premise.{premise-edges}
 use Rattle.edges.proofs.Worked.{follower-ends, follower-ideally}
 use Rattle.guarantee.specs.Demand3.{HonestEnough}
@@ -39,6 +40,7 @@ unfolding fieldOf
 bytes-meet = record {
   barely-met = λ n l m. let b = premise-edges .met-by-bytes n l m in record { taken = b .taken; honest = omega (arith, b .just-enough) };
   case-r-met = record { taken = table-cases .case-R-taken; honest = omega (arith, table-cases .case-R-honest) };
+  places-met = record { taken = season-cases .two-places; honest = omega (arith, season-cases .three-honest) };
 }
 
 -- the runs, by the rules of the byte tables
@@ -49,6 +51,8 @@ pub record ByRules (table : List ℕ) (w : Worked) (signers : List (ℕ × ℕ �
 pub record Computed : Type 0 where
   pub case-r : ByRules tables.caseR caseR ((1, 0, 0, 1) ∷ []) ((0, 0) ∷ []) ((0, 1) ∷ [])
   pub two-faced : ByRules (barelyBytes 4) twoFaced ((1, 0, 0, 3) ∷ (2, 0, 0, 3) ∷ (3, 0, 0, 3) ∷ (3, 0, 1, 2) ∷ [])
+      ((0, 0) ∷ []) ((0, 1) ∷ [])
+  pub two-places : ByRules twoPlaces twoFaced ((1, 0, 0, 3) ∷ (2, 0, 0, 3) ∷ (3, 0, 0, 3) ∷ (3, 0, 1, 2) ∷ [])
       ((0, 0) ∷ []) ((0, 1) ∷ [])
 
 computed : Computed
@@ -66,6 +70,10 @@ computed = record {
     ends = record { answered = refl; signed = refl; receipted = refl; published = refl };
     ideally = record { receipted = refl; published = refl; allowed = refl };
   };
+  two-places = record {
+    ends = record { answered = refl; signed = refl; receipted = refl; published = refl };
+    ideally = record { receipted = refl; published = refl; allowed = refl };
+  };
 }
 
 -- so they end on the bytes
@@ -79,4 +87,5 @@ pub bytes-run : BytesRun
 bytes-run = record {
   case-r = on-bytes (bytes-meet .case-r-met) (computed .case-r);
   two-faced = on-bytes (bytes-meet .barely-met 4 (omega arith) (omega arith)) (computed .two-faced);
+  two-places = on-bytes (bytes-meet .places-met) (computed .two-places);
 }

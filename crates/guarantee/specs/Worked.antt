@@ -5,6 +5,7 @@ use mathlib.Core.List.{List, [], _∷_}
 use Rattle.engine.specs.Engine.{rulesTable}
 use Rattle.edges.specs.Tables as tables
 use Rattle.edges.specs.Premise.{barelyBytes}
+use Rattle.edges.specs.Seasons.{twoPlaces}
 use Rattle.edges.specs.Cases.{Worked, caseR, twoFaced}
 use Rattle.edges.specs.Worked.{Ends, Ideally}
 use Rattle.guarantee.specs.Demand3.{HonestEnough, byBytes}
@@ -14,6 +15,8 @@ pub record BytesMeet : Type 0 where
   -- with any number of peers that a table can have, the least threshold t for them, and exactly t honest ones
   pub barely-met : (n : ℕ) → 1 ≤ n → n ≤ 16 → HonestEnough (barelyBytes n)
   pub case-r-met : HonestEnough tables.caseR
+  -- and a table of the second season, in which two items clash by their places alone
+  pub places-met : HonestEnough twoPlaces
 
 -- a run of the engine on bytes: its answers, what a report of it lists, and the ideal board beside it, with each move
 -- allowed
@@ -27,4 +30,7 @@ pub record BytesRun : Type 0 where
   pub case-r : RunsTo tables.caseR caseR ((1, 0, 0, 1) ∷ []) ((0, 0) ∷ []) ((0, 1) ∷ [])
   -- four peers of which one is two-faced, on a table that just meets the premise
   pub two-faced : RunsTo (barelyBytes 4) twoFaced ((1, 0, 0, 3) ∷ (2, 0, 0, 3) ∷ (3, 0, 0, 3) ∷ (3, 0, 1, 2) ∷ [])
+      ((0, 0) ∷ []) ((0, 1) ∷ [])
+  -- the same calls on the table of the second season: of two audits from two places one is receipted and published
+  pub two-places : RunsTo twoPlaces twoFaced ((1, 0, 0, 3) ∷ (2, 0, 0, 3) ∷ (3, 0, 0, 3) ∷ (3, 0, 1, 2) ∷ [])
       ((0, 0) ∷ []) ((0, 1) ∷ [])

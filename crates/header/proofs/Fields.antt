@@ -8,13 +8,13 @@ use mathlib.Core.Path.{_≡_, refl}
 use lib.ListN.{length}
 use lib.Pow.{pow-pos}
 use borrow.Author.Tests.{le-leb, lt-leb, eqb-true}
-use Rattle.base.specs.Bytes.{byteAt, between}
+use Rattle.base.specs.Bytes.{between}
 use Rattle.base.specs.Weight.{ones, all}
 use Rattle.base.proofs.Truth.{and-l}
 use Rattle.base.proofs.Bytes.{between-true}
 use Rattle.base.proofs.Weight.{weight-mono, count-all}
 use Rattle.header.specs.declared.Head.{Head}
-use Rattle.header.specs.Header.{headOf, headerSize, fieldOf, peersOf, thresholdOf, honestOf, periodsOf, itemsOf}
+use Rattle.header.specs.Header.{headOf, headerSize, peersOf, thresholdOf, honestOf, periodsOf, itemsOf}
 use Rattle.header.specs.Header.{isHonest, honestCount, leastThreshold, noneAbove, thresholdOk, fieldsOk, headerOk}
 
 -- a header, field by field
@@ -22,16 +22,6 @@ pub all-read : (s : List ℕ) (n t honest periods items : ℕ)
     → n ≡ peersOf s → t ≡ thresholdOf s → honest ≡ honestOf s → periods ≡ periodsOf s → items ≡ itemsOf s
     → _≡_ {A = Head} (record { n = n; t = t; honest = honest; periods = periods; items = items }) (headOf s)
 all-read s n t honest periods items a b c d e = λ i. record { n = a i; t = b i; honest = c i; periods = d i; items = e i }
-
--- where a field stands, and how long the header is: for the two functions that read them, and no other proof
-
-pub field-at : (s : List ℕ) (i : ℕ) {r : ℕ} → r ≡ byteAt s i → r ≡ fieldOf s i
-unfolding fieldOf
-field-at s i e = e
-
-pub size-is : (s : List ℕ) → 6 ≡ headerSize s
-unfolding headerSize
-size-is s = refl
 
 -- at most all peers are honest
 pub honest-most : (h : Head) → honestCount h ≤ h .n

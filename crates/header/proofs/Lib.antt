@@ -1,4 +1,5 @@
 pub mod Fields
 pub mod TwoThirds
 pub mod Ranges
+pub mod Seasons
 pub mod Reach

@@ -8,14 +8,15 @@ use Rattle.base.specs.Bytes.{byteAt, between}
 use Rattle.base.specs.Bits.{member}
 use Rattle.base.specs.Weight.{weight, ones}
 use Rattle.header.specs.declared.Head.{Head}
+use Rattle.header.specs.Season.{seasonOf, fieldsAt}
 
--- the header's length in bytes, the same for every table
+-- the header's length in bytes: six bytes of fields, after what its season puts before them
 unfoldable pub headerSize : List ℕ → ℕ
-headerSize s = 6
+headerSize s = fieldsAt (seasonOf s) + 6
 
--- byte i of the header: every field is read through it
+-- byte i of the fields: every field is read through it
 unfoldable pub fieldOf : List ℕ → ℕ → ℕ
-fieldOf s i = byteAt s i
+fieldOf s i = byteAt s (fieldsAt (seasonOf s) + i)
 
 -- n, the number of peers
 abbrev pub peersOf : List ℕ → ℕ

@@ -1,2 +1,3 @@
+pub mod Season
 pub mod Header
 pub mod Quorum

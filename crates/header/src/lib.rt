@@ -7,8 +7,11 @@ ghost use Rattle.header.specs.Header.{headerSize, fieldOf, peersOf, thre
 ghost use Rattle.header.specs.Header.{headOf, isHonest, honestCount};
 ghost use Rattle.header.specs.Header.{leastThreshold, noneAbove, thresholdOk, fieldsOk, headerOk};
 ghost use Rattle.base.specs.Bytes.{between};
+use crate::season::fields_at;
+use crate::season::season_of;
 
 pub mod quorum;
+pub mod season; // the season of a table
 
 // Peers by their signing keys, whose signatures are on an item or whose hashes have a board: bit k - 1 is peer k.
 pub struct Signers(pub u16);
@@ -27,18 +30,19 @@ pub struct Head {
     pub items: u8,
 }
 
-// The header's length in bytes, the same for every table.
+// The header's length in bytes: six bytes of fields, after what its season puts before them.
 pub fn header_size(table: &[u8]) -> u8
     ensures { λ r. ⌜ r ≡ headerSize (now (table .entry)) ⌝ }
 {
-    6
+    fields_at(season_of(table)) + 6
 }
 
-// Byte i of the header: every field is read through it.
-fn field(table: &[u8], i: usize) -> u8
+// Byte i of the fields: every field is read through it.
+fn field(table: &[u8], i: u8) -> u8
     ensures { λ r. ⌜ r ≡ fieldOf (now (table .entry)) i ⌝ }
 {
-    base::byte_at(table, i)
+    let at = fields_at(season_of(table));
+    base::byte_at(table, at as usize + i as usize)
 }
 
 // n, the number of peers.

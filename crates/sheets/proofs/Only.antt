@@ -15,6 +15,7 @@ use Rattle.base.proofs.Tab.{length-tab, getD-tab}
 use Rattle.bits.specs.Row.{Bytes}
 use Rattle.pairs.specs.Pairs.{pairNumber, offsetOf, sizeOf, firstOffset, endBefore, pairsFit, lastEnd, pairsOk}
 use Rattle.pairs.proofs.Texts.{pair-number, starts-at, text-length}
+use Rattle.ballot.specs.declared.item.Audits.the-variants.{Either}
 use Rattle.ballot.proofs.Readings.{item-most, each-item}
 use Rattle.sheets.specs.Sheet.{itemsMost, sheetMost, pairsAt, periodOn, countOn, textOn, textsOn, sheetOk}
 use Rattle.sheets.specs.Made.{twoBytes, pairBytes, pairsFrom, joined, sheetOf}
@@ -91,7 +92,7 @@ module _ (s : List ℕ) (ok : sheetOk s ≡ true) where
   short : (k : ℕ) → k < length (textsOn s) → length (getD (textsOn s) k []) ≤ 37
   short k l =
       let below : k < countOn s = rw length-tab at l in
-      rw (getD-tab (countOn s) (textOn s) k [] below) (item-most _ (each-item s pairsAt (countOn s) (passed s ok .items) k below))
+      rw (getD-tab (countOn s) (textOn s) k [] below) (item-most _ (each-item Either s pairsAt (countOn s) (passed s ok .items) k below))
 
   sheet-most : length s ≤ sheetMost
   sheet-most =

@@ -15,6 +15,7 @@ use Rattle.pairs.specs.Pairs.{pairNumber, offsetOf, sizeOf, firstOffset, endBef
 use Rattle.pairs.proofs.Texts.{pair-number, pairs-whole}
 use Rattle.twins.specs.Twins.{twinless}
 use Rattle.twins.proofs.Apart.{all-apart}
+use Rattle.ballot.specs.declared.item.Audits.the-variants.{Either}
 use Rattle.ballot.specs.Item.{allItems}
 use Rattle.ballot.proofs.Readings.{item-most, all-read}
 use Rattle.sheets.specs.Sheet.{periodsMost, sheetMost, pairsAt, textOn, textsOn, sheetOk}
@@ -125,8 +126,8 @@ module _ (p : ℕ) (texts : List (List ℕ)) (small : p < periodsMost) (listed :
       rw (end-on (length texts) (omega arith), take-length texts) (sym (sheet-length p texts)) in
       and-i _ _ fit (eq-eqb _ _ last)
 
-  items-ok : allItems sheet pairsAt (length texts) ≡ true
-  items-ok = all-read sheet pairsAt (length texts) (λ k l. rw (text-on k l) (listed .items k l))
+  items-ok : allItems Either sheet pairsAt (length texts) ≡ true
+  items-ok = all-read Either sheet pairsAt (length texts) (λ k l. rw (text-on k l) (listed .items k l))
 
   apart-ok : twinless sheet pairsAt (length texts) ≡ true
   apart-ok = all-apart sheet pairsAt (length texts) (λ i j i-first l same.

@@ -10,6 +10,10 @@ use Rattle.sheets.specs.declared.Found.the-variants.{Part, Refused}
 abbrev pub audit : List ℕ
 audit = 0 ∷ 0 ∷ 0 ∷ 7 ∷ 2 ∷ []
 
+-- an audit of ballot 7 from place 5
+abbrev pub placed : List ℕ
+placed = 0 ∷ 0 ∷ 0 ∷ 7 ∷ 2 ∷ 5 ∷ []
+
 abbrev pub cancellation : List ℕ
 cancellation = 0 ∷ 0 ∷ 0 ∷ 7 ∷ 3 ∷ []
 
@@ -24,6 +28,10 @@ sheetR = 0 ∷ 1 ∷ 0 ∷ 6 ∷ 0 ∷ 5 ∷ audit
 abbrev pub three : List ℕ
 three = 7 ∷ 3 ∷ 0 ∷ 14 ∷ 0 ∷ 6 ∷ 0 ∷ 20 ∷ 0 ∷ 5 ∷ 0 ∷ 25 ∷ 0 ∷ 5 ∷ (vote ++ (audit ++ cancellation))
 
+-- period 0 with two audits, one of which names its place
+abbrev pub mixed : List ℕ
+mixed = 0 ∷ 2 ∷ 0 ∷ 10 ∷ 0 ∷ 5 ∷ 0 ∷ 15 ∷ 0 ∷ 6 ∷ (audit ++ placed)
+
 pub record SheetCases : Type 0 where
   pub case-r : sheetAnswer sheetR ≡ 0
   pub case-r-made : sheetOf 0 (audit ∷ []) ≡ sheetR
@@ -33,6 +41,11 @@ pub record SheetCases : Type 0 where
   pub three-items : sheetAnswer three ≡ 0
   pub three-made : sheetOf 7 (vote ∷ audit ∷ cancellation ∷ []) ≡ three
   pub third-item : found three 2 ≡ Part 25 5
+  -- an audit with its place, alone and beside one without
+  pub placed-audit : sheetAnswer (0 ∷ 1 ∷ 0 ∷ 6 ∷ 0 ∷ 6 ∷ placed) ≡ 0
+  pub mixed-audits : sheetAnswer mixed ≡ 0
+  pub mixed-made : sheetOf 0 (audit ∷ placed ∷ []) ≡ mixed
+  pub mixed-item : handedOut mixed 1 ≡ placed
   -- a board of no items is two bytes, and no more
   pub no-items : sheetAnswer (3 ∷ 0 ∷ []) ≡ 0
   pub no-items-tail : sheetAnswer (3 ∷ 0 ∷ 0 ∷ []) ≡ 16
@@ -47,6 +60,6 @@ pub record SheetCases : Type 0 where
   pub tail : sheetAnswer (sheetR ++ (0 ∷ [])) ≡ 16
   pub tables-offset : sheetAnswer (0 ∷ 1 ∷ 0 ∷ 10 ∷ 0 ∷ 5 ∷ 0 ∷ 0 ∷ 0 ∷ 0 ∷ audit) ≡ 16
   pub kind-4 : sheetAnswer (0 ∷ 1 ∷ 0 ∷ 6 ∷ 0 ∷ 5 ∷ 0 ∷ 0 ∷ 0 ∷ 7 ∷ 4 ∷ []) ≡ 16
-  pub audit-of-6-bytes : sheetAnswer (0 ∷ 1 ∷ 0 ∷ 6 ∷ 0 ∷ 6 ∷ (audit ++ (0 ∷ []))) ≡ 16
+  pub audit-of-7-bytes : sheetAnswer (0 ∷ 1 ∷ 0 ∷ 6 ∷ 0 ∷ 7 ∷ (placed ++ (0 ∷ []))) ≡ 16
   pub twins : sheetAnswer (0 ∷ 2 ∷ 0 ∷ 10 ∷ 0 ∷ 5 ∷ 0 ∷ 15 ∷ 0 ∷ 5 ∷ (audit ++ audit)) ≡ 16
   pub no-sheet-item : found (8 ∷ 0 ∷ []) 0 ≡ Refused 16

@@ -9,6 +9,7 @@ use Rattle.base.specs.Bytes.{byteAt}
 use Rattle.base.specs.Tab.{tab}
 use Rattle.pairs.specs.Pairs.{textOf, pairsOk}
 use Rattle.twins.specs.Twins.{twinless}
+use Rattle.ballot.specs.declared.item.Audits.the-variants.{Either}
 use Rattle.ballot.specs.Item.{allItems}
 
 -- periods are below it, as in every table
@@ -44,12 +45,12 @@ abbrev pub textsOn : List ℕ → List (List ℕ)
 textsOn s = tab (countOn s) (textOn s)
 
 -- the bytes are a sheet, whole: period and count are there and in range, the pairs are as in the ballot table and end
--- where the sheet does, each text is an item, and no two are twins
+-- where the sheet does, each text is an item, an audit with its place or without, and no two are twins
 unfoldable pub sheetOk : List ℕ → Bool
 sheetOk s =
     leb pairsAt (length s)
     && (ltb (periodOn s) periodsMost
     && (leb (countOn s) itemsMost
     && (pairsOk s pairsAt (countOn s)
-    && (allItems s pairsAt (countOn s)
+    && (allItems Either s pairsAt (countOn s)
     && twinless s pairsAt (countOn s)))))

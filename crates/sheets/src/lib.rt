@@ -1,9 +1,11 @@
 // The sheet of document 02's P2, judged and read without the table: its whole slice is judged first, and an item is
 // handed out as the part of the sheet that it is. Nothing is copied, and no byte is changed.
-// It uses pairs, twins and ballot's items as the ballot table does, with another place for the pairs.
+// It uses pairs, twins and ballot's items as the ballot table does, with another place for the pairs and with audits of
+// either length.
 ghost use mathlib.Core.Path.{_≡_};
 ghost use Rattle.sheets.specs.Sheet.{countOn, sheetOk};
 ghost use Rattle.sheets.specs.Found.{sheetAnswer, found, handedOut};
+use ballot::item::Audits;
 
 // Periods are below it, and no sheet has more items or more bytes.
 const PERIODS_MOST: u8 = 8;
@@ -47,7 +49,7 @@ fn sheet_ok(sheet: &[u8]) -> bool
     if !pairs::pairs_ok(sheet, PAIRS_AT, items) {
         return false;
     }
-    if !ballot::item::all_items(sheet, PAIRS_AT, items) {
+    if !ballot::item::all_items(Audits::Either, sheet, PAIRS_AT, items) {
         return false;
     }
     twins::no_twins(sheet, PAIRS_AT, items)

@@ -12,10 +12,10 @@ use Rattle.ballot.proofs.item.all_items.Statement.{statement}
 use Rattle.ballot.proofs.item.all_items.Tie as tie
 
 abbrev Inv-loop : tie.InvT-loop
-Inv-loop s at m k₀ k = (k ≤ m) × (every k (itemAt s at) ≡ true)
+Inv-loop audits s at m k₀ k = (k ≤ m) × (every k (itemAt audits s at) ≡ true)
 
 abbrev μ-loop : tie.MeasureT-loop
-μ-loop s at m k₀ k = m - k
+μ-loop audits s at m k₀ k = m - k
 
 loop-holds : tie.Need-loop-holds Inv-loop μ-loop
 loop-holds c = (omega arith, every-none _)

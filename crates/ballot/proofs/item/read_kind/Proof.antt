@@ -19,14 +19,14 @@ returns-2 c = c .good-if .ensures ∙ rw (eq-eqb _ _ (c .before .before .if1 .ta
 -- an audit
 returns-3 : tie.Need-returns-3
 unfolding readKind
-returns-3 c = c .good-if2 .ensures ∙ rw (ne-eqb _ _ (c .before .before .if1 .left), eq-eqb _ _ (c .before .if3 .taken))
+returns-3 c = c .read-audit .ensures ∙ rw (ne-eqb _ _ (c .before .before .if1 .left), eq-eqb _ _ (c .before .if3 .taken))
 
 -- a cancellation
 returns-4 : tie.Need-returns-4
 unfolding readKind
 returns-4 c =
     let no-audit = c .before .before in
-    c .good-if3 .ensures
+    c .good-if2 .ensures
     ∙ rw (ne-eqb _ _ (no-audit .before .if1 .left), ne-eqb _ _ (no-audit .if3 .left), eq-eqb _ _ (c .before .if4 .taken))
 
 -- no kind

@@ -1,0 +1,13 @@
+-- By the season.
+use borrow.Author.Needs.{needs}
+use Rattle.header.proofs.season.fields_at.Statement.{statement}
+use Rattle.header.proofs.season.fields_at.Tie as tie
+
+returns : tie.Need-returns
+returns c = rw (c .enum-told .given .1)
+
+returns-2 : tie.Need-returns-2
+returns-2 c = rw (c .enum-told2 .given .1)
+
+pub fields-at-spec : {M : Type 1} → statement M
+fields-at-spec = tie.close (tie.spec (λ c. search needs) (λ c. search needs) returns returns-2)
