@@ -32,8 +32,9 @@ extern "C" {
 
 /* Rises when a function, a number or a layout of this file changes.
  * 2: a report has the line `totals` before its last one.
- * 3: sheets: the answer 16, a layout and four functions. */
-#define BOARD_VERSION 3
+ * 3: sheets: the answer 16, a layout and four functions.
+ * 4: tables of season 2, whose audits name their place. */
+#define BOARD_VERSION 4
 
 /* The answers, by their words. A number that is not here is a refusal too. */
 enum board_answer {
@@ -97,14 +98,19 @@ enum board_op {
 #define BOARD_STEP_BOARD_AT 5 /* 8 bytes, high first: the bit worth 2^i is item i */
 
 /* A table: the header's fields, then a pair for each item, then the items.
- * Numbers of several bytes have their high byte first. */
+ * Numbers of several bytes have their high byte first. A table of season 2 has
+ * the bytes 0 and 2 before its header; every place below is then
+ * BOARD_SEASON_LENGTH more. No other table starts with 0. */
+#define BOARD_SEASON_AT 1
+#define BOARD_SEASON_SECOND 2
+#define BOARD_SEASON_LENGTH 2
 #define BOARD_TABLE_PEERS_AT 0
 #define BOARD_TABLE_THRESHOLD_AT 1
 #define BOARD_TABLE_HONEST_AT 2 /* 2 bytes: the bit worth 2^(k - 1) is peer k */
 #define BOARD_TABLE_PERIODS_AT 4
 #define BOARD_TABLE_ITEMS_AT 5
 #define BOARD_TABLE_PAIRS_AT 6
-#define BOARD_TABLE_MOST 2630   /* no table is longer */
+#define BOARD_TABLE_MOST 2632   /* no table is longer */
 
 /* A sheet, which is one board: its period, the number of its items, then a pair
  * for each item, then the items, all as in a table. */
@@ -118,10 +124,12 @@ enum board_op {
 #define BOARD_PAIR_OFFSET_AT 0 /* 2 bytes */
 #define BOARD_PAIR_SIZE_AT 2   /* 2 bytes */
 
-/* An item: 4 bytes of ballot number, the kind, and of a vote its preferences. */
+/* An item: 4 bytes of ballot number, the kind, and then of a vote its
+ * preferences, of an audit of season 2 its place. */
 #define BOARD_ITEM_BALLOT_AT 0
 #define BOARD_ITEM_KIND_AT 4
 #define BOARD_ITEM_PREFERENCES_AT 5
+#define BOARD_ITEM_PLACE_AT 5
 #define BOARD_PREFERENCES_MOST 32
 
 enum board_item_kind {

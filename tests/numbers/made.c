@@ -17,25 +17,43 @@ void put_number(uint8_t *at, size_t number, int bytes) {
     }
 }
 
-void put_header(int peers, int threshold, int honest, int periods, int items) {
-    memset(table, 0, sizeof table);
-    table[BOARD_TABLE_PEERS_AT] = (uint8_t)peers;
-    table[BOARD_TABLE_THRESHOLD_AT] = (uint8_t)threshold;
-    put_number(table + BOARD_TABLE_HONEST_AT, (size_t)honest, 2);
-    table[BOARD_TABLE_PERIODS_AT] = (uint8_t)periods;
-    table[BOARD_TABLE_ITEMS_AT] = (uint8_t)items;
-    table_length = (size_t)(BOARD_TABLE_PAIRS_AT + BOARD_PAIR_LENGTH * items);
+/* Where the header begins: a table of the new season starts with 0 and 2. */
+static uint8_t *header = table;
+
+static void put_fields(int peers, int threshold, int honest, int periods, int items) {
+    header[BOARD_TABLE_PEERS_AT] = (uint8_t)peers;
+    header[BOARD_TABLE_THRESHOLD_AT] = (uint8_t)threshold;
+    put_number(header + BOARD_TABLE_HONEST_AT, (size_t)honest, 2);
+    header[BOARD_TABLE_PERIODS_AT] = (uint8_t)periods;
+    header[BOARD_TABLE_ITEMS_AT] = (uint8_t)items;
+    table_length = (size_t)(pair_of(items) - table);
 }
 
-void put_item(int k, int ballot, int kind, int preferences) {
-    uint8_t *pair = table + BOARD_TABLE_PAIRS_AT + BOARD_PAIR_LENGTH * k;
+void put_header(int peers, int threshold, int honest, int periods, int items) {
+    memset(table, 0, sizeof table);
+    header = table;
+    put_fields(peers, threshold, honest, periods, items);
+}
+
+void put_new_header(int peers, int threshold, int honest, int periods, int items) {
+    memset(table, 0, sizeof table);
+    table[BOARD_SEASON_AT] = BOARD_SEASON_SECOND;
+    header = table + BOARD_SEASON_LENGTH;
+    put_fields(peers, threshold, honest, periods, items);
+}
+
+uint8_t *pair_of(int k) {
+    return header + BOARD_TABLE_PAIRS_AT + BOARD_PAIR_LENGTH * k;
+}
+
+void put_item(int k, int ballot, int kind, int more) {
     uint8_t *item = table + table_length;
-    size_t size = (size_t)(BOARD_ITEM_PREFERENCES_AT + preferences);
-    put_number(pair + BOARD_PAIR_OFFSET_AT, table_length, 2);
-    put_number(pair + BOARD_PAIR_SIZE_AT, size, 2);
+    size_t size = (size_t)(BOARD_ITEM_PREFERENCES_AT + more);
+    put_number(pair_of(k) + BOARD_PAIR_OFFSET_AT, table_length, 2);
+    put_number(pair_of(k) + BOARD_PAIR_SIZE_AT, size, 2);
     put_number(item + BOARD_ITEM_BALLOT_AT, (size_t)ballot, 4);
     item[BOARD_ITEM_KIND_AT] = (uint8_t)kind;
-    for (int i = 0; i < preferences; i++) {
+    for (int i = 0; i < more; i++) {
         item[BOARD_ITEM_PREFERENCES_AT + i] = (uint8_t)(200 + k);
     }
     table_length += size;

@@ -26,9 +26,14 @@ void put_table(void);
 /* A number of so many bytes, high byte first. */
 void put_number(uint8_t *at, size_t number, int bytes);
 
-/* A header without items behind it, and item k at the table's end. */
+/* A header without items behind it, of the old season or of the new; and item k at
+ * the table's end, with so many bytes behind its kind. */
 void put_header(int peers, int threshold, int honest, int periods, int items);
-void put_item(int k, int ballot, int kind, int preferences);
+void put_new_header(int peers, int threshold, int honest, int periods, int items);
+void put_item(int k, int ballot, int kind, int more);
+
+/* The pair of item k. */
+uint8_t *pair_of(int k);
 
 /* An entry of these fields, so numbered and the last, in the bag of a state. */
 void put_entry(uint8_t *of, int number, int kind, int signer, int period, uint64_t board);

@@ -40,7 +40,7 @@ static void expect_board(int period, uint64_t board) {
     }
     expect_front(period, count);
     for (int i = 0; i < BOARD_ITEMS_MOST; i++) {
-        const uint8_t *pair = table + BOARD_TABLE_PAIRS_AT + BOARD_PAIR_LENGTH * i;
+        const uint8_t *pair = pair_of(i);
         if (board >> i & 1) {
             expect_item(table + number_at(pair + BOARD_PAIR_OFFSET_AT), number_at(pair + BOARD_PAIR_SIZE_AT));
         }
@@ -118,6 +118,18 @@ static void check_order(void) {
     put_header(1, 1, 1, 1, 1);
     put_item(0, 7, BOARD_ITEM_AUDIT, 1);
     CHECK(written(PERIODS, 0) == BOARD_ITEM);
+}
+
+/* Of the new season: an audit with its place, a vote and a cancellation, of which the first two are on the board. */
+static void check_new_season(void) {
+    put_new_header(1, 1, 1, 1, 3);
+    put_item(0, 7, BOARD_ITEM_AUDIT, 1);
+    put_item(1, 8, BOARD_ITEM_VOTE, BOARD_PREFERENCES_MOST);
+    put_item(2, 7, BOARD_ITEM_CANCELLATION, 0);
+    start();
+    enter(0, BOARD_ENTRY_BOARD, 0, 0, 1 << 0 | 1 << 1);
+    expect_board(0, 1 << 0 | 1 << 1);
+    check_rooms(0);
 }
 
 /* The longest sheet: every item, each as long as can be. */
@@ -200,6 +212,8 @@ void check_sheet_numbers(void) {
     put_table();
     check_written();
     check_order();
+    check_new_season();
+    check_read(BOARD_DONE);
     check_longest();
     check_read(BOARD_DONE);
     check_reader();

@@ -98,6 +98,31 @@ static void check_kinds(void) {
     CHECK(STEP(.op = BOARD_OP_HAND, .peer = 1, .item = 2) == BOARD_DONE);
 }
 
+/* Under eight bytes a table of the new season has no header; an audit has its place, and by that alone clashes with
+ * another of its ballot. */
+static void check_new_season(void) {
+    put_new_header(1, 1, 1, 1, 2);
+    put_item(0, 7, BOARD_ITEM_AUDIT, 1);
+    put_item(1, 7, BOARD_ITEM_AUDIT, 1);
+    CHECK(board_check_table(table, table_length) == BOARD_DONE);
+    size_t pairs_at = BOARD_SEASON_LENGTH + BOARD_TABLE_PAIRS_AT;
+    CHECK(board_check_table(table, pairs_at - 1) == BOARD_HEADER);
+    CHECK(board_check_table(table, pairs_at) == BOARD_PAIRS);
+    start();
+    for (int item = 0; item < 2; item++) {
+        CHECK(STEP(.op = BOARD_OP_POST, .item = item) == BOARD_DONE);
+        CHECK(STEP(.op = BOARD_OP_HAND, .peer = 1, .item = item) == (item == 0 ? BOARD_DONE : BOARD_CLASH));
+    }
+    uint8_t *second = table + table_length - 6, *first = second - 6;
+    second[BOARD_ITEM_PLACE_AT] = first[BOARD_ITEM_PLACE_AT];
+    CHECK(board_check_table(table, table_length) == BOARD_TWIN);
+    for (int more = 0; more <= 2; more++) {
+        put_new_header(1, 1, 1, 1, 1);
+        put_item(0, 7, BOARD_ITEM_AUDIT, more);
+        CHECK(board_check_table(table, table_length) == (more == 1 ? BOARD_DONE : BOARD_ITEM));
+    }
+}
+
 static void check_limits(void) {
     put_header(BOARD_PEERS_MOST, BOARD_PEERS_MOST, 0, 1, 0);
     CHECK(board_check_table(table, table_length) == BOARD_DONE);
@@ -108,7 +133,7 @@ static void check_limits(void) {
     put_header(1, 1, 1, BOARD_PERIODS_MOST + 1, 0);
     CHECK(board_check_table(table, table_length) == BOARD_HEADER);
     for (int items = BOARD_ITEMS_MOST; items <= BOARD_ITEMS_MOST + 1; items++) {
-        put_header(1, 1, 1, 1, items);
+        put_new_header(1, 1, 1, 1, items);
         for (int k = 0; k < items; k++) {
             put_item(k, k, BOARD_ITEM_VOTE, BOARD_PREFERENCES_MOST);
         }
@@ -123,5 +148,6 @@ void check_table_numbers(void) {
     check_table();
     check_items();
     check_kinds();
+    check_new_season();
     check_limits();
 }

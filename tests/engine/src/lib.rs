@@ -7,7 +7,9 @@
 //! - `pair`: engines and reference on the same calls
 //! - `sheets`: the same for sheets, written and read
 //! - `closes`: closes of a period, run so: what was asked of them, and what came
+//! - `altered`: tables and sheets with other texts for their items
 
+pub mod altered;
 pub mod closes;
 pub mod layout;
 pub mod lent;

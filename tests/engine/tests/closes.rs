@@ -7,8 +7,9 @@ use inputs::closes::{close, wrong_close, Lack};
 use inputs::random::{run_seed, Random};
 use inputs::steps::random_steps;
 use reference::form::{read_step, write_step, Step};
+use reference::season::Season;
 use reference::state::Entry;
-use reference::table::LEAST_THRESHOLD;
+use reference::table::{Kind, LEAST_THRESHOLD};
 use reference::union::union_board;
 use std::collections::BTreeMap;
 
@@ -88,6 +89,10 @@ fn alike(ran: &Ran, hits: &mut Hits) {
     let alone = |item: &usize| ran.start.peers.iter().all(|peer| peer.signers(p, *item) < t);
     hits.add("an item that no database alone has", ran.board.iter().any(alone));
     hits.add("no items", ran.board.is_empty());
+    hits.add("the old season", ran.pair.table.season == Season::Old);
+    hits.add("the new season", ran.pair.table.season == Season::New);
+    let is_placed = |item: &usize| matches!(ran.pair.table.items[*item].kind, Kind::PlacedAudit(_));
+    hits.add("an audit with its place", ran.board.iter().any(is_placed));
     hits.add("a period after the first", p > 0);
     hits.add("all fetches before all hashes", n > 1 && ran.fetches_come_first());
     hits.add("all hashes heard", ran.heard.iter().all(|heard| heard.len() == n));

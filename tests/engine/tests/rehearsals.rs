@@ -9,6 +9,7 @@ use inputs::kinds::{rehearsal, round};
 use inputs::random::{run_seed, Random};
 use inputs::rehearsed::Rehearsed;
 use reference::report::rehearse;
+use reference::season::Season;
 
 /// So many rounds, each of all kinds.
 const ROUNDS: usize = 10;
@@ -134,18 +135,22 @@ fn another_report_is_found() {
 
 #[test]
 fn same_reports() {
-    let (seed, mut answers) = (run_seed(), Answers::default());
+    let (seed, mut answers, mut taken) = (run_seed(), Answers::default(), [0; 2]);
     for number in 0..ROUNDS * round() {
         let (kind, input) = rehearsal(seed, number);
         let rehearsed = Rehearsed::new(&input);
         assert!((kind.fits)(&rehearsed), "seed {seed}, number {number}: not {}", kind.name);
         answers.count_all(&rehearsed);
+        if let Ok(outcome) = &rehearsed.outcome {
+            taken[(outcome.table.season == Season::New) as usize] += 1;
+        }
         if let Err(wrong) = compare_all(number, seed, &rehearsed) {
             let (name, length, hex) = (kind.name, input.len(), hex(&input));
             panic!("seed {seed}, number {number}, {name}: {wrong}\ninput, {length} bytes: {hex}");
         }
     }
     println!("{} rehearsals with {} steps", ROUNDS * round(), answers.calls());
-    println!("{answers}");
+    println!("tables taken, of the old season and of the new {taken:?}\n{answers}");
+    assert!(taken.iter().all(|times| *times > 500), "seed {seed}");
     assert_eq!(answers.wrong(), [""; 0], "seed {seed}");
 }

@@ -1,6 +1,7 @@
 //! The boards of random rehearsals, written as sheets and read back: each is the
 //! reference's sheet, and reads as the board that the report shows.
 
+use engine::altered::is_audit;
 use engine::layout::LENGTH;
 use engine::{board_report_most, board_sheet_most, Engine, ENGINES};
 use inputs::kinds::{rehearsal, round};
@@ -27,7 +28,8 @@ fn shown(report: &[u8]) -> BTreeMap<u8, Vec<u8>> {
 
 /// The text of an item of a table.
 fn text(table: &[u8], item: u8) -> Vec<u8> {
-    let [offset, length] = [0, 2].map(|at| number(table, pair_at(item as usize) + at));
+    let pair = pair_at(table, item as usize);
+    let [offset, length] = [0, 2].map(|at| number(table, pair + at));
     table[offset..offset + length].to_vec()
 }
 
@@ -62,6 +64,20 @@ struct Seen {
     items: usize,
     most: usize,
     empty: usize,
+    /// Audits that were read, without a place and with one.
+    audits: [usize; 2],
+}
+
+impl Seen {
+    /// A board that was read.
+    fn add(&mut self, texts: &[Vec<u8>]) {
+        self.items += texts.len();
+        self.most = self.most.max(texts.len());
+        self.empty += texts.is_empty() as usize;
+        for more in [0, 1] {
+            self.audits[more] += texts.iter().filter(|text| is_audit(text, more)).count();
+        }
+    }
 }
 
 /// Each period's sheet from an engine, beside the reference's sheet and the board
@@ -84,14 +100,11 @@ fn compare(
         *seen.answers.entry(sheet.as_ref().err().copied().unwrap_or(0)).or_default() += 1;
         let items = boards.get(&period);
         let texts = items.map(|items| items.iter().map(|item| text(table, *item)).collect());
-        if sheet.ok().map(|sheet| read(engine, &sheet)) != texts.map(Ok) {
+        let read = sheet.ok().map(|sheet| read(engine, &sheet));
+        if read != texts.map(Ok) {
             return Err(format!("period {period}: the sheet does not read as {items:?}"));
         }
-        if let Some(items) = items {
-            seen.items += items.len();
-            seen.most = seen.most.max(items.len());
-            seen.empty += items.is_empty() as usize;
-        }
+        read.into_iter().flatten().for_each(|texts| seen.add(&texts));
     }
     Ok(())
 }
@@ -113,4 +126,5 @@ fn boards_as_shown() {
     println!("{seen:?}");
     assert!([0, 6, 10].iter().all(|answer| seen.answers[answer] > 1_000));
     assert!(seen.items > 4_000 && seen.most > 20 && seen.empty > 100);
+    assert!(seen.audits.iter().all(|times| *times > 200));
 }

@@ -1,12 +1,13 @@
 //! Sheets and bytes of every sort, read: the same verdicts, and the same places
 //! of their items.
 
+use engine::altered::{is_audit, must_be_found, sheet_with};
 use engine::lent::Lent;
 use engine::sheets::Reading;
 use engine::{Engine, ENGINES, PLAIN};
 use inputs::random::{run_seed, Random};
-use inputs::sheets::{of_items, random_bytes, SORTS};
-use std::collections::BTreeMap;
+use inputs::sheets::{of_items, SORTS};
+use inputs::sorts::{in_turn, Tally};
 
 /// So many rounds, each of all sorts.
 const ROUNDS: usize = 1_500;
@@ -28,27 +29,20 @@ fn read(engines: &[Engine], random: &mut Random, bytes: &[u8], all: bool) -> Res
 
 #[test]
 fn same_verdicts() {
-    let (seed, mut seen) = (run_seed(), BTreeMap::<(&str, u8), usize>::new());
+    let (seed, mut seen) = (run_seed(), Tally::default());
     for number in 0..ROUNDS * SORTS.len() {
-        let (sort, bytes) = random_bytes(seed, number);
+        let (sort, bytes) = in_turn(&SORTS, seed, number);
         let mut random = Random::new(!seed, number);
         let answer = read(&ENGINES, &mut random, &bytes, number.is_multiple_of(40));
         let answer = answer.unwrap_or_else(|wrong| {
             panic!("seed {seed}, number {number}, {}: {wrong}\nbytes {bytes:?}", sort.name)
         });
-        *seen.entry((sort.name, answer)).or_default() += 1;
+        seen.count(sort, answer);
     }
-    let times = |name, answer| seen.get(&(name, answer)).copied().unwrap_or(0);
-    let all = |answer| SORTS.iter().map(|sort| times(sort.name, answer)).sum::<usize>();
-    println!("{} read, {} refused", all(0), all(16));
-    for sort in &SORTS {
-        let [reads, refused] = [0, 16].map(|answer| times(sort.name, answer));
-        println!("{:<34}{reads:>8}{refused:>8}", sort.name);
-        for answer in sort.answers {
-            assert!(times(sort.name, *answer) > 20, "{}: too few answers {answer}", sort.name);
-        }
-    }
-    assert!(all(0) > 5_000 && all(16) > 20_000);
+    let [read, refused] = [0, 16].map(|answer| seen.times(answer));
+    println!("{read} read, {refused} refused\n{seen}");
+    assert_eq!(seen.rare(&SORTS, 20), [""; 0], "seed {seed}");
+    assert!(read > 5_000 && refused > 20_000);
 }
 
 /// Every beginning of a sheet, with the rest still behind it.
@@ -78,6 +72,17 @@ fn wrong(name: &'static str, check_sheet: fn(&[u8]) -> u8) -> Engine {
     Engine { name, check_sheet, ..PLAIN }
 }
 
+/// The verdict on bytes in which each audit with so many bytes behind its kind has
+/// others.
+fn altered(bytes: &[u8], more: usize, other: usize) -> u8 {
+    let alter = |text: &mut Vec<u8>| {
+        if is_audit(text, more) {
+            text.resize(5 + other, 0);
+        }
+    };
+    plain::check_sheet(&sheet_with(bytes, alter))
+}
+
 /// The comparison can fail: each of these readers differs somewhere.
 #[test]
 fn every_wrong_reader_is_found() {
@@ -98,6 +103,9 @@ fn every_wrong_reader_is_found() {
             [8, rest @ ..] => plain::check_sheet(&[&[0], rest].concat()),
             _ => plain::check_sheet(bytes),
         }),
+        wrong("an audit with its place refused", |bytes| altered(bytes, 1, 2)),
+        wrong("an audit without a place refused", |bytes| altered(bytes, 0, 2)),
+        wrong("an audit of seven bytes read", |bytes| altered(bytes, 2, 1)),
         item("numbers written before they are judged", |bytes, item, offset, length| {
             (*offset, *length) = (0, 0);
             plain::sheet_item(bytes, item, offset, length)
@@ -112,10 +120,8 @@ fn every_wrong_reader_is_found() {
     ] {
         let found = (0..100 * SORTS.len()).filter(|number| {
             let mut random = Random::new(!seed, *number);
-            read(&[engine], &mut random, &random_bytes(seed, *number).1, false).is_err()
+            read(&[engine], &mut random, &in_turn(&SORTS, seed, *number).1, false).is_err()
         });
-        let found = found.count();
-        println!("{}: found {found} times", engine.name);
-        assert!(found > 0, "{}: not found", engine.name);
+        must_be_found(engine.name, found.count());
     }
 }

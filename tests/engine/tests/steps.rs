@@ -3,62 +3,98 @@
 use engine::pair::Pair;
 use inputs::answers::Answers;
 use inputs::period::{can_fill, false_hashes, filled, posts};
+use inputs::places::{is_clash_of_places, receipts_of_places};
 use inputs::random::{run_seed, Random};
 use inputs::steps::{all_items, liars, random_steps};
 use inputs::tables::random_table;
 use reference::form::{write_step, Step};
+use reference::season::Season;
 
-fn call(pair: &mut Pair, answers: &mut Answers, step: &[u8]) {
-    answers.count(step, pair.call(step));
+/// What the runs had.
+#[derive(Default)]
+struct Seen {
+    answers: Answers,
+    boards: usize,
+    boards_with_items: usize,
+    full_bags: usize,
+    /// Of both seasons, and those of the new one.
+    runs: usize,
+    new_season: usize,
+    clashes_of_places: usize,
+    receipts_of_places: usize,
 }
 
-fn run(pair: &mut Pair, random: &mut Random, answers: &mut Answers, rounds: usize) {
+impl Seen {
+    /// What a run came to.
+    fn add(&mut self, pair: &Pair) {
+        let boards = pair.state.boards();
+        self.boards += boards.len();
+        self.boards_with_items += boards.iter().filter(|board| !board.1.is_empty()).count();
+        self.runs += 1;
+        self.new_season += (pair.table.season == Season::New) as usize;
+        self.receipts_of_places += receipts_of_places(&pair.table, &pair.state);
+    }
+}
+
+fn call(pair: &mut Pair, seen: &mut Seen, step: &[u8]) {
+    let answer = pair.call(step);
+    seen.answers.count(step, answer);
+    seen.clashes_of_places += is_clash_of_places(&pair.table, step, answer) as usize;
+}
+
+fn run(pair: &mut Pair, random: &mut Random, seen: &mut Seen, rounds: usize) {
     for _ in 0..rounds {
         for step in random_steps(random, &pair.table, &pair.state) {
-            call(pair, answers, &step);
+            call(pair, seen, &step);
         }
     }
 }
 
 /// The dishonest peers back one board, and then hash others until the bag is
 /// full.
-fn fill(pair: &mut Pair, random: &mut Random, answers: &mut Answers) {
+fn fill(pair: &mut Pair, random: &mut Random, seen: &mut Seen) {
     let board = random.bits() & all_items(pair.table.m());
     let back = |peer| Step::FalseBacking { peer, period: 0, board };
     let lies = liars(&pair.table).into_iter().map(back).chain(false_hashes(random, &pair.table));
     for step in posts(&pair.table).chain(lies) {
-        call(pair, answers, &write_step(step));
+        call(pair, seen, &write_step(step));
     }
 }
 
 /// A run that fills the bag when it hurts the most.
-fn run_filled(random: &mut Random, answers: &mut Answers) {
+fn run_filled(random: &mut Random, seen: &mut Seen) {
     let making = filled(random);
     let mut pair = Pair::fresh(making.text);
-    making.steps.iter().for_each(|step| call(&mut pair, answers, step));
+    making.steps.iter().for_each(|step| call(&mut pair, seen, step));
 }
 
 #[test]
 fn same_answers_and_bytes() {
-    let (seed, mut answers) = (run_seed(), Answers::default());
-    let (mut published, mut with_items, mut full) = (0, 0, 0);
+    let (seed, mut seen) = (run_seed(), Seen::default());
     for number in 0..300 {
         let mut random = Random::new(seed, number);
         let mut pair = Pair::fresh(random_table(&mut random, [1, 3, 5, 16][number % 4]));
-        run(&mut pair, &mut random, &mut answers, 300);
+        run(&mut pair, &mut random, &mut seen, 300);
         if can_fill(&pair.table) {
-            fill(&mut pair, &mut random, &mut answers);
-            run(&mut pair, &mut random, &mut answers, 100);
-            full += 1;
+            fill(&mut pair, &mut random, &mut seen);
+            run(&mut pair, &mut random, &mut seen, 100);
+            seen.full_bags += 1;
         }
         if number.is_multiple_of(20) {
-            run_filled(&mut random, &mut answers);
+            run_filled(&mut random, &mut seen);
         }
-        published += pair.state.boards().len();
-        with_items += pair.state.boards().iter().filter(|board| !board.1.is_empty()).count();
+        seen.add(&pair);
     }
-    println!("{} calls; boards {published}, with items {with_items}", answers.calls());
-    println!("full bags {full}\n{answers}");
+    let Seen { answers, boards, boards_with_items, full_bags, .. } = &seen;
+    println!("{} calls; boards {boards}, with items {boards_with_items}", answers.calls());
+    println!("full bags {full_bags}\n{answers}");
+    let Seen { runs, new_season, clashes_of_places, receipts_of_places, .. } = seen;
+    println!("{new_season} of {runs} runs of the new season");
+    println!(
+        "{clashes_of_places} clashes of two places, {receipts_of_places} receipts for one of them"
+    );
     assert_eq!(answers.wrong(), [""; 0]);
-    assert!(published > 50 && with_items > 20 && full > 5);
+    assert!(*boards > 50 && *boards_with_items > 20 && *full_bags > 5);
+    assert!((runs / 3..=2 * runs / 3).contains(&new_season));
+    assert!(clashes_of_places > 10 && receipts_of_places > 3);
 }

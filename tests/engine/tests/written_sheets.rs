@@ -1,15 +1,18 @@
 //! Boards written as sheets, from lent states of every sort: the same answers
 //! and bytes, and nothing else written.
 
+use engine::altered::{is_audit, must_be_found, table_with};
 use engine::layout::*;
 use engine::pair::Pair;
 use engine::row14::is_state;
 use engine::sheets::Writing;
 use engine::{board_sheet_most, Engine, WriteSheet, PLAIN};
+use inputs::damaged::damaged_table;
 use inputs::random::{run_seed, Random};
-use inputs::tables::{damaged_table, random_table, Shape};
+use inputs::tables::{random_table, Shape};
+use reference::season::SEASONS;
 use reference::state::{Board, Entry, State};
-use reference::table::{read_table, write_table};
+use reference::table::{read_table, write_table_of};
 use std::collections::BTreeMap;
 
 /// The length of the longest sheet: 2 + 4 · 64 + 64 · 37.
@@ -192,7 +195,7 @@ fn buffers_of_every_length() {
     assert!(lengths.iter().any(|length| *length > 100));
 }
 
-/// 64 votes of 32 preferences are the longest sheet.
+/// 64 votes of 32 preferences are the longest sheet, of either season.
 #[test]
 fn the_longest() {
     let seed = run_seed();
@@ -200,20 +203,31 @@ fn the_longest() {
     let vote =
         |k: u32, random: &mut Random| [&k.to_be_bytes()[..], &[1], &random.bytes(32)].concat();
     let items: Vec<Vec<u8>> = (0..64).map(|k| vote(k, &mut random)).collect();
-    let mut pair = Pair::fresh(write_table(16, 11, 0xFFFF, 8, &items));
-    pair.state.enter(Entry::Board { period: 7, board: (0..64).collect() }).expect("a fresh bag");
-    pair.buffer = encode(&pair.state);
-    let sheet = writing(&pair, 7).expected(MOST).expect("a board");
-    assert_eq!((sheet.len(), board_sheet_most()), (MOST, MOST));
-    every_room(&mut random, &pair, 7, MOST);
+    for season in SEASONS {
+        let mut pair = Pair::fresh(write_table_of(season, 16, 11, 0xFFFF, 8, &items));
+        let board = Entry::Board { period: 7, board: (0..64).collect() };
+        pair.state.enter(board).expect("a fresh bag");
+        pair.buffer = encode(&pair.state);
+        let sheet = writing(&pair, 7).expected(MOST).expect("a board");
+        assert_eq!((sheet.len(), board_sheet_most()), (MOST, MOST));
+        every_room(&mut random, &pair, 7, MOST);
+    }
 }
 
 /// The comparison can fail: each of these writers differs somewhere.
 #[test]
 fn every_wrong_writer_is_found() {
     let seed = run_seed();
-    let writers: [(&str, WriteSheet); 4] = [
+    let writers: [(&str, WriteSheet); 5] = [
         ("all refused", |_, _, _, _, _| 16),
+        ("place 0 for all", |table, state, period, sheet, length| {
+            let alter = |text: &mut Vec<u8>| {
+                if is_audit(text, 1) {
+                    text[5] = 0;
+                }
+            };
+            plain::write_sheet(&table_with(table, alter), state, period, sheet, length)
+        }),
         ("a byte after the sheet", |table, state, period, sheet, length| {
             let answer = plain::write_sheet(table, state, period, sheet, length);
             sheet.last_mut().into_iter().for_each(|byte| *byte = 0);
@@ -240,8 +254,6 @@ fn every_wrong_writer_is_found() {
             let writing = writing(&lender.pair, [lender.shown, lender.bare][number % 2]);
             writing.compare(&engine, &mut random, MOST, &writing.expected(MOST)).is_err()
         });
-        let found = found.count();
-        println!("{name}: found {found} times");
-        assert!(found > 0, "{name}: not found");
+        must_be_found(name, found.count());
     }
 }

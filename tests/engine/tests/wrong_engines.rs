@@ -1,11 +1,18 @@
-//! The comparison can fail: each of the engines that document 01 wants rejected
-//! differs from the reference somewhere in a random run.
+//! The comparison can fail: each of the engines that document 01 wants rejected,
+//! and each that lets items be held which clash, differs from the reference
+//! somewhere in a random run.
 
+use engine::altered::{is_audit, must_be_found, table_with};
 use engine::pair::Pair;
 use engine::{Engine, PLAIN};
 use inputs::random::{run_seed, Random};
 use inputs::steps::random_steps;
 use inputs::tables::Shape;
+use reference::form::{read_step, Step};
+use reference::season::Season;
+use reference::table::read_table;
+
+const RUNS: usize = 20;
 
 fn wrong(name: &'static str, step: fn(&[u8], &mut [u8], &[u8]) -> u8) -> Engine {
     Engine { name, step, ..PLAIN }
@@ -42,27 +49,83 @@ fn invented_signer(table: &[u8], state: &mut [u8], step: &[u8]) -> u8 {
     answer
 }
 
+/// A hand as it would be if the item clashed with no other of its ballot that is so
+/// beside it: these are of another ballot.
+fn hand(
+    table: &[u8],
+    state: &mut [u8],
+    step: &[u8],
+    is_free: fn(handed: &[u8], other: &[u8]) -> bool,
+) -> u8 {
+    let items = read_table(table).map_or(Vec::new(), |table| table.items);
+    let handed = match read_step(step) {
+        Ok(Step::Hand { item, .. }) => items.get(item).map(|item| item.text()),
+        _ => None,
+    };
+    let alter = |text: &mut Vec<u8>| {
+        let is_other = |handed: &Vec<u8>| text[..4] == handed[..4] && text != handed;
+        if handed.as_ref().is_some_and(|handed| is_other(handed) && is_free(handed, text)) {
+            text[..4].fill(255);
+        }
+    };
+    (PLAIN.step)(&table_with(table, alter), state, step)
+}
+
+fn are_audits(one: &[u8], other: &[u8]) -> bool {
+    is_audit(one, 1) && is_audit(other, 1)
+}
+
 #[test]
 fn every_wrong_engine_is_found() {
+    all_found(
+        &[
+            wrong("peer 1 alone", peer_1_alone),
+            wrong("short before counting", short_before_counting),
+            wrong("a signer invented", invented_signer),
+            wrong("nothing stored", only_answer),
+            wrong("0 to all", |_, _, _| 0),
+            wrong("all refused", |_, _, _| 12),
+        ],
+        |random| Shape { n: 4, periods: 3, m: 3 }.honest_table(random, 1),
+    );
+}
+
+#[test]
+fn every_wrong_clash_is_found() {
+    all_found(
+        &[
+            wrong("places not compared", |table, state, step| hand(table, state, step, are_audits)),
+            wrong("places compared by less than", |table, state, step| {
+                hand(table, state, step, |one, other| are_audits(one, other) && one[5] < other[5])
+            }),
+            wrong("a vote beside a place", |table, state, step| {
+                hand(table, state, step, |one, other| is_audit(one, 1) != is_audit(other, 1))
+            }),
+        ],
+        |random| {
+            let of_ballot_7 = |rest: [u8; 2]| [&[0, 0, 0, 7], &rest[..]].concat();
+            let texts = [[2, 0], [2, 1], [2, 2], [2, 128], [2, 255], [1, 0]].map(of_ballot_7);
+            let shape = Shape { n: 4, periods: 3, m: texts.len() };
+            shape.with_liars(random, 3, 1, Season::New, &texts)
+        },
+    );
+}
+
+/// Each of the engines is found in some run on such tables.
+fn all_found(engines: &[Engine], table: fn(&mut Random) -> Vec<u8>) {
     let seed = run_seed();
-    for engine in [
-        wrong("peer 1 alone", peer_1_alone),
-        wrong("short before counting", short_before_counting),
-        wrong("a signer invented", invented_signer),
-        wrong("nothing stored", only_answer),
-        wrong("0 to all", |_, _, _| 0),
-        wrong("all refused", |_, _, _| 12),
-    ] {
-        let runs = (0..10).filter(|number| differs(&engine, &mut Random::new(seed, *number)));
-        let found = runs.count();
-        println!("{}: found in {found} of 10 runs", engine.name);
-        assert!(found > 0, "{}: not found", engine.name);
+    for engine in engines {
+        let runs = (0..RUNS).filter(|number| {
+            let mut random = Random::new(seed, *number);
+            let text = table(&mut random);
+            differs(engine, &mut random, text)
+        });
+        must_be_found(engine.name, runs.count());
     }
 }
 
 /// Whether the engine differs in a run, in which the true one does not.
-fn differs(engine: &Engine, random: &mut Random) -> bool {
-    let text = Shape { n: 4, periods: 3, m: 3 }.honest_table(random, 1);
+fn differs(engine: &Engine, random: &mut Random, text: Vec<u8>) -> bool {
     let mut pair = Pair::fresh(text);
     for _ in 0..600 {
         for step in random_steps(random, &pair.table, &pair.state) {

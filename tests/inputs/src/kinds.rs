@@ -2,6 +2,7 @@
 
 use crate::counted::*;
 use crate::odd::*;
+use crate::places::{shows_places, two_places};
 use crate::random::Random;
 use crate::rehearsed::Rehearsed;
 use crate::runs::*;
@@ -24,8 +25,8 @@ const fn kind(times: usize, name: &'static str, make: Make, fits: fn(&Rehearsed)
     Kind { times, name, make, fits }
 }
 
-pub static KINDS: [Kind; 30] = [
-    kind(60, "a run", run, |r| r.is(|o| o.answers.len() >= 20)),
+pub static KINDS: [Kind; 33] = [
+    kind(41, "a run", run, |r| r.is(|o| o.answers.len() >= 20)),
     kind(16, "shuffled steps", shuffled, |r| r.is(|o| o.answers.len() >= 10)),
     kind(16, "repeated steps", repeated, |r| r.is(|o| o.answers.len() >= 10)),
     kind(16, "lost steps", lost, |r| r.outcome.is_ok()),
@@ -46,7 +47,7 @@ pub static KINDS: [Kind; 30] = [
     kind(1, "65,537 bytes, no table", long_garbage, |r| r.is_refused(15) && !has_table(r)),
     kind(32, "a damaged table", damaged, |r| r.outcome.is_err()),
     kind(15, "garbage", garbage, |r| !r.is(|o| !o.answers.contains(&5))),
-    kind(14, "0 to 6 bytes", few_bytes, |r| r.input.len() <= 6),
+    kind(18, "0 to 8 bytes", few_bytes, |r| r.input.len() <= 8),
     kind(8, "shorter than the last end", cut, |r| {
         r.is_refused(2) && ends_so(r, |end| end > r.input.len())
     }),
@@ -61,6 +62,11 @@ pub static KINDS: [Kind; 30] = [
     kind(6, "receipts that come again", receipts_again, |r| comes_again(r, 6)),
     kind(6, "publishes that come again", publishes_again, |r| comes_again(r, 12)),
     kind(7, "two boards of one period", two_boards, |r| r.is(has_two_boards)),
+    kind(7, "audits from two places", two_places, |r| r.is(|o| shows_places(r, o))),
+    kind(4, "an audit of the other season", other_audit, |r| {
+        r.is_refused(3) && has_items_of_any_season(r)
+    }),
+    kind(4, "0 and another byte than 2", no_season, |r| r.is_refused(1) && lacks_its_second(r)),
 ];
 
 /// The number of rehearsals in a round.

@@ -2,7 +2,11 @@
 //! rehearsals.
 //!
 //! - `random`: a small generator, and the seed of a run
-//! - `tables`: valid tables, and damaged ones
+//! - `sorts`: bytes by sort, and which answers each sort got
+//! - `tables`: valid tables of either season
+//! - `seasons`: sorts of tables by what makes a season, right or wrong
+//! - `damaged`: damaged tables
+//! - `places`: audits of one ballot from two places
 //! - `steps`: steps of which many are taken
 //! - `making`: a rehearsal in the making, with the reference's state alongside
 //! - `period`: periods that go well, and lies that fill the bag
@@ -23,17 +27,21 @@ pub mod answers;
 mod bursts;
 pub mod closes;
 mod counted;
+pub mod damaged;
 mod earlier;
 mod exchange;
 pub mod kinds;
 pub mod making;
 mod odd;
 pub mod period;
+pub mod places;
 pub mod protocol;
 pub mod random;
 pub mod rehearsed;
 mod runs;
+pub mod seasons;
 pub mod sheets;
+pub mod sorts;
 pub mod steps;
 pub mod stored;
 pub mod tables;

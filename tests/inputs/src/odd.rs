@@ -1,9 +1,14 @@
 //! Rehearsals that are refused, and bytes of any sort.
 
+use crate::damaged::damaged_table;
 use crate::making::Making;
 use crate::random::Random;
 use crate::rehearsed::Rehearsed;
-use crate::tables::{damaged_table, number, pair_at, random_table, Shape};
+use crate::seasons::{with_audit, with_second};
+use crate::tables::{head, number, pair_at, random_table, Shape};
+use reference::season::Season;
+use reference::sheet::{read_sheet, write_sheet};
+use reference::table::read_front;
 
 /// The bytes of some steps of a run on any table.
 fn some_steps(random: &mut Random) -> Vec<u8> {
@@ -26,6 +31,35 @@ pub fn damaged(random: &mut Random, number: usize) -> Vec<u8> {
     }
 }
 
+/// A table of one season with an audit of the other, and steps.
+pub fn other_audit(random: &mut Random, number: usize) -> Vec<u8> {
+    let (season, more) = [(Season::New, 0), (Season::Old, 1)][number % 2];
+    [with_audit(random, season, more), some_steps(random)].concat()
+}
+
+/// Whether all items are such as a sheet takes, and only their season is wrong.
+pub fn has_items_of_any_season(rehearsed: &Rehearsed) -> bool {
+    let input = rehearsed.input;
+    let pairs = (0..=last(input)).map(|k| pair(input, k));
+    let texts: Vec<Vec<u8>> =
+        pairs.map(|(offset, length)| input[offset..offset + length].to_vec()).collect();
+    read_sheet(&write_sheet(0, &texts)).is_ok()
+}
+
+/// A table of the new season but for its second byte, and steps.
+pub fn no_season(random: &mut Random, number: usize) -> Vec<u8> {
+    let second = [0, 1, 3, 255][number % 4];
+    [with_second(random, &[second]), some_steps(random)].concat()
+}
+
+/// Whether only the second byte keeps the input from a season.
+pub fn lacks_its_second(rehearsed: &Rehearsed) -> bool {
+    match rehearsed.input {
+        [0, second, rest @ ..] => *second != 2 && read_front(&[&[0, 2], rest].concat()).is_ok(),
+        _ => false,
+    }
+}
+
 /// Any bytes; any bytes after a table; or steps with small numbers anywhere.
 pub fn garbage(random: &mut Random, number: usize) -> Vec<u8> {
     let length = random.between(40, 400);
@@ -39,11 +73,12 @@ pub fn garbage(random: &mut Random, number: usize) -> Vec<u8> {
     [random_table(random, 16), any].concat()
 }
 
-/// Each length from 0 to 6: the beginning of a table, or any bytes.
+/// Each length from 0 to 8: the beginning of a table and steps, or any bytes.
 pub fn few_bytes(random: &mut Random, number: usize) -> Vec<u8> {
     let text = Shape { m: 0, ..Shape::random(random, 16) }.table(random);
-    let from = if (number / 7).is_multiple_of(2) { text } else { random.bytes(6) };
-    from[..number % 7].to_vec()
+    let any = random.bytes(8);
+    let from = if (number / 9).is_multiple_of(2) { [text, any].concat() } else { any };
+    from[..number % 9].to_vec()
 }
 
 /// A valid table with at least so many items.
@@ -53,24 +88,26 @@ fn with_items(random: &mut Random, least: usize) -> Vec<u8> {
 
 /// Offset and length of pair k.
 fn pair(input: &[u8], k: usize) -> (usize, usize) {
-    (number(input, pair_at(k)), number(input, pair_at(k) + 2))
+    (number(input, pair_at(input, k)), number(input, pair_at(input, k) + 2))
 }
 
 fn set_pair(input: &mut [u8], k: usize, offset: usize, length: usize) {
     let [offset, length] = [offset, length].map(|number| (number as u16).to_be_bytes());
-    input[pair_at(k)..pair_at(k + 1)].copy_from_slice(&[offset, length].concat());
+    let at = pair_at(input, k);
+    input[at..at + 4].copy_from_slice(&[offset, length].concat());
 }
 
 /// The number of the last item.
 fn last(input: &[u8]) -> usize {
-    input[5] as usize - 1
+    input[head(input) - 1] as usize - 1
 }
 
 /// The end of each pair; none if the pairs are cut short.
 fn ends(rehearsed: &Rehearsed) -> Vec<usize> {
     let input = rehearsed.input;
-    let m = if input.len() < pair_at(0) { 0 } else { input[5] as usize };
-    let whole = if input.len() < pair_at(m) { 0 } else { m };
+    let head = head(input);
+    let m = if input.len() < head { 0 } else { input[head - 1] as usize };
+    let whole = if input.len() < pair_at(input, m) { 0 } else { m };
     (0..whole).map(|k| pair(input, k)).map(|(offset, length)| offset + length).collect()
 }
 

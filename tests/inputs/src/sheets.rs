@@ -1,30 +1,26 @@
 //! Random sheets: valid ones, damaged ones, and other bytes.
 
+use crate::damaged::{copy_item, move_end, odd_item};
+use crate::places::{two_audits, FREE};
 use crate::random::Random;
-use crate::tables::{add, copy_item, move_end, number, odd_item, pair_behind};
-use crate::tables::{random_items, random_table};
+use crate::sorts::{sort, Sort};
+use crate::tables::{add, audit, number, pair_behind, random_items, random_table};
+use reference::season::Season::{New, Old};
+use reference::season::SEASONS;
 use reference::sheet::write_sheet;
 use std::ops::Range;
 
-pub struct Sort {
-    pub name: &'static str,
-    make: Make,
-    /// The answers that some of them get.
-    pub answers: &'static [u8],
-}
-
-type Make = fn(&mut Random) -> Vec<u8>;
-
-const fn sort(name: &'static str, make: Make, answers: &'static [u8]) -> Sort {
-    Sort { name, make, answers }
-}
-
-pub static SORTS: [Sort; 28] = [
+pub static SORTS: [Sort; 33] = [
     sort("a sheet", |random| sheet(random, 0), &[0]),
     sort("no items", |random| of_items(random, 0), &[0]),
     sort("64 items", |random| of_items(random, 64), &[0]),
     sort("items in another order", shuffled, &[0]),
     sort("nearly twins", |random| with_copy(random, true), &[0]),
+    sort("audits of either length", audits_of_either_length, &[0]),
+    sort("audits from two places", |random| with_two_audits(random, false), &[0]),
+    sort("two audits from one place", |random| with_two_audits(random, true), &[16]),
+    sort("an audit of seven bytes", |random| with_audit(random, 2), &[16]),
+    sort("an audit of four bytes", |random| with_audit(random, -1), &[16]),
     sort("texts exchanged under their pairs", texts_exchanged, &[0, 16]),
     sort("a byte changed", |random| changed(random, |bytes| 0..bytes.len()), &[0, 16]),
     sort("another period", |random| with_head(random, 0), &[0, 16]),
@@ -50,20 +46,20 @@ pub static SORTS: [Sort; 28] = [
     sort("a sum that would wrap", wrapped, &[16]),
 ];
 
-/// Bytes of a run, by their number: of every sort in turn.
-pub fn random_bytes(seed: u64, number: usize) -> (&'static Sort, Vec<u8>) {
-    let sort = &SORTS[number % SORTS.len()];
-    (sort, (sort.make)(&mut Random::new(seed, number)))
-}
-
 /// The bytes before the pairs: the period and the count.
 const HEAD: usize = 2;
+
+/// So many items, with audits of one season or of both.
+fn items(random: &mut Random, m: usize) -> Vec<Vec<u8>> {
+    let seasons = [&SEASONS[..], &[Old], &[New]][random.below(3)];
+    random_items(random, seasons, m)
+}
 
 /// Items for a sheet, at least so many.
 fn some_items(random: &mut Random, least: usize) -> Vec<Vec<u8>> {
     let most = [4, 12, 64][random.below(3)];
     let m = random.between(least, most);
-    random_items(random, m)
+    items(random, m)
 }
 
 fn of_texts(random: &mut Random, texts: &[Vec<u8>]) -> Vec<u8> {
@@ -78,8 +74,35 @@ fn sheet(random: &mut Random, least: usize) -> Vec<u8> {
 
 /// A valid sheet of so many items.
 pub fn of_items(random: &mut Random, m: usize) -> Vec<u8> {
-    let items = random_items(random, m);
+    let items = items(random, m);
     of_texts(random, &items)
+}
+
+/// A sheet of some items and these, in any order.
+fn with_more(random: &mut Random, more: Vec<Vec<u8>>) -> Vec<u8> {
+    let m = random.below(12);
+    let mut items = [items(random, m), more].concat();
+    random.shuffle(&mut items);
+    of_texts(random, &items)
+}
+
+/// An audit of one ballot without its place and with it.
+fn audits_of_either_length(random: &mut Random) -> Vec<u8> {
+    let audits = SEASONS.map(|season| audit(random, season, FREE));
+    with_more(random, audits.into())
+}
+
+/// Two audits of one ballot, from places that are the same, or not.
+fn with_two_audits(random: &mut Random, same: bool) -> Vec<u8> {
+    let audits = two_audits(random, same);
+    with_more(random, audits)
+}
+
+/// An audit with so many bytes behind its kind, or without it.
+fn with_audit(random: &mut Random, more: isize) -> Vec<u8> {
+    let mut audit = [audit(random, Old, FREE), random.bytes(2)].concat();
+    audit.truncate((5 + more) as usize);
+    with_more(random, vec![audit])
 }
 
 fn shuffled(random: &mut Random) -> Vec<u8> {

@@ -1,7 +1,8 @@
-//! Random tables: valid ones, and damaged ones.
+//! Random tables that are valid, of either season.
 
 use crate::random::Random;
-use reference::table::{write_table, LEAST_THRESHOLD};
+use reference::season::{Season, SEASONS};
+use reference::table::{write_table_of, LEAST_THRESHOLD};
 
 /// What a table is asked to have.
 pub struct Shape {
@@ -23,30 +24,59 @@ impl Shape {
 
     /// The bytes of a valid table of this shape.
     pub fn table(self, random: &mut Random) -> Vec<u8> {
+        let season = random_season(random);
+        self.table_of(random, season)
+    }
+
+    /// The same of a season.
+    pub fn table_of(self, random: &mut Random, season: Season) -> Vec<u8> {
+        let items = random_items(random, &[season], self.m);
+        self.with_texts(random, season, &items)
+    }
+
+    /// The same with these texts for items, which may be none.
+    pub fn with_texts(self, random: &mut Random, season: Season, texts: &[Vec<u8>]) -> Vec<u8> {
         let all = u16::MAX >> (16 - self.n);
         let some = random.bits() as u16;
         let honest = all & [all, some, some | random.bits() as u16, 0][random.below(31) / 10];
-        let items = random_items(random, self.m);
         let t = threshold(random, self.n);
-        write_table(self.n as u8, t as u8, honest, self.periods as u8, &items)
+        write_table_of(season, self.n as u8, t as u8, honest, self.periods as u8, texts)
     }
 
-    /// The same with the least threshold, at least so many honest peers, and so
-    /// many liars if that leaves enough.
+    /// A valid table with the least threshold, at least so many honest peers, and
+    /// so many liars if that leaves enough.
     pub fn honest_table(self, random: &mut Random, liars: usize) -> Vec<u8> {
         let t = LEAST_THRESHOLD[self.n - 1];
         let liars = liars.min(self.n - t);
         self.table_with(random, t, liars)
     }
 
-    /// The same with this threshold and so many liars.
+    /// A valid table with this threshold and so many liars.
     pub fn table_with(self, random: &mut Random, t: usize, liars: usize) -> Vec<u8> {
+        let season = random_season(random);
+        let items = random_items(random, &[season], self.m);
+        self.with_liars(random, t, liars, season, &items)
+    }
+
+    /// The same of a season and with these texts for items.
+    pub fn with_liars(
+        self,
+        random: &mut Random,
+        t: usize,
+        liars: usize,
+        season: Season,
+        texts: &[Vec<u8>],
+    ) -> Vec<u8> {
         let mut peers: Vec<usize> = (0..self.n).collect();
         random.shuffle(&mut peers);
         let honest = peers[liars..].iter().fold(0, |set, k| set | 1 << k);
-        let items = random_items(random, self.m);
-        write_table(self.n as u8, t as u8, honest, self.periods as u8, &items)
+        write_table_of(season, self.n as u8, t as u8, honest, self.periods as u8, texts)
     }
+}
+
+/// Either season, one as often as the other.
+pub fn random_season(random: &mut Random) -> Season {
+    SEASONS[random.below(SEASONS.len())]
 }
 
 /// The bytes of a valid table with at most so many peers.
@@ -64,17 +94,19 @@ fn threshold(random: &mut Random, n: usize) -> usize {
     }
 }
 
-/// Different items, of few ballot numbers.
-pub fn random_items(random: &mut Random, m: usize) -> Vec<Vec<u8>> {
+/// Different items, of few ballot numbers, with audits of the seasons given; now
+/// and then most of them are audits.
+pub fn random_items(random: &mut Random, seasons: &[Season], m: usize) -> Vec<Vec<u8>> {
+    let kinds = [&[1, 1, 2, 3][..], &[1, 2, 2, 2, 2, 3]][random.below(2)];
     let mut items: Vec<Vec<u8>> = Vec::new();
     while items.len() < m {
-        let mut item = (random.below(1 + m / 3) as u32).to_be_bytes().to_vec();
-        item.push([1, 1, 2, 3][random.below(4)]);
-        if item[4] == 1 {
-            let most = [1, 2, 32][random.below(3)];
-            let length = random.between(1, most);
-            item.extend(random.bytes(length));
-        }
+        let ballot = random.below(1 + m / 3) as u32;
+        let season = seasons[random.below(seasons.len())];
+        let item = match kinds[random.below(kinds.len())] {
+            1 => vote(random, ballot),
+            2 => audit(random, season, ballot),
+            _ => [&ballot.to_be_bytes()[..], &[3]].concat(),
+        };
         if !items.contains(&item) {
             items.push(item);
         }
@@ -82,33 +114,27 @@ pub fn random_items(random: &mut Random, m: usize) -> Vec<Vec<u8>> {
     items
 }
 
-/// A valid table, cut, made longer, with a byte changed, an odd item or twins;
-/// or any bytes at all.
-pub fn damaged_table(random: &mut Random) -> Vec<u8> {
-    let mut table = random_table(random, 16);
-    let at = random.below(table.len());
-    let (length, more) = (random.below(60), random.between(1, 4));
-    match random.below(10) {
-        0 => table.truncate(at),
-        1 => table.extend(random.bytes(more)),
-        2 => table = random.bytes(length),
-        3 => table[random.below(6)] = random.below(20) as u8,
-        4 => table[at] = table[at].wrapping_add([1, 255][random.below(2)]),
-        5 => table[at] = random.bits() as u8,
-        6 => copy_item(random, &mut table, HEAD),
-        7 => move_end(random, &mut table, HEAD),
-        8 => table = with_odd_item(random),
-        _ => {}
-    }
-    table
+fn vote(random: &mut Random, ballot: u32) -> Vec<u8> {
+    let most = [1, 2, 32][random.below(3)];
+    let length = random.between(1, most);
+    [&ballot.to_be_bytes()[..], &[1], &random.bytes(length)].concat()
 }
 
-/// The bytes before the pairs, of which the last is the number of items.
-const HEAD: usize = 6;
+/// An audit of the season, from one of few places.
+pub fn audit(random: &mut Random, season: Season, ballot: u32) -> Vec<u8> {
+    let place = [0, 1, 2, 255][random.below(4)];
+    let place = if season == Season::New { &[place][..] } else { &[] };
+    [&ballot.to_be_bytes()[..], &[2], place].concat()
+}
 
-/// The place of pair k's offset, and of its length two bytes on.
-pub fn pair_at(k: usize) -> usize {
-    pair_behind(HEAD, k)
+/// The bytes of a table before its pairs, of which the last is the number of items.
+pub fn head(table: &[u8]) -> usize {
+    Season::of(table).head_length()
+}
+
+/// The place of pair k's offset in a table, and of its length two bytes on.
+pub fn pair_at(table: &[u8], k: usize) -> usize {
+    pair_behind(head(table), k)
 }
 
 /// The same behind a head of so many bytes.
@@ -125,47 +151,4 @@ pub fn number(table: &[u8], at: usize) -> usize {
 pub fn add(bytes: &mut [u8], at: usize, by: isize) {
     let sum = (number(bytes, at) as u16).wrapping_add(by as u16);
     bytes[at..at + 2].copy_from_slice(&sum.to_be_bytes());
-}
-
-/// Writes the bytes of an item over another, as many as there is room for.
-pub fn copy_item(random: &mut Random, bytes: &mut [u8], head: usize) {
-    let m = bytes[head - 1] as usize;
-    if m > 0 {
-        let pairs = [random.below(m), random.below(m)].map(|k| pair_behind(head, k));
-        let [(from, length), (to, room)] =
-            pairs.map(|at| (number(bytes, at), number(bytes, at + 2)));
-        bytes.copy_within(from..from + length.min(room), to);
-    }
-}
-
-/// Moves the end of an item by a byte; the next one, if any, begins there.
-pub fn move_end(random: &mut Random, bytes: &mut [u8], head: usize) {
-    let m = bytes[head - 1] as usize;
-    let k = random.below(m);
-    let by = [1, -1][random.below(2)];
-    if k < m {
-        add(bytes, pair_behind(head, k) + 2, by);
-    }
-    if k + 1 < m {
-        add(bytes, pair_behind(head, k + 1), by);
-        add(bytes, pair_behind(head, k + 1) + 2, -by);
-    }
-}
-
-/// A table with an odd item.
-fn with_odd_item(random: &mut Random) -> Vec<u8> {
-    let m = random.between(1, 8);
-    let mut items = random_items(random, m);
-    items[random.below(m)] = odd_item(random);
-    write_table(3, 3, 7, 2, &items)
-}
-
-/// Of any length up to 40 and any small kind.
-pub fn odd_item(random: &mut Random) -> Vec<u8> {
-    let length = [random.below(41), 5, 6, 37, 38][random.below(5)];
-    let mut item = random.bytes(length);
-    if length > 4 {
-        item[4] = random.below(5) as u8;
-    }
-    item
 }

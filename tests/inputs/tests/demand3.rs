@@ -2,10 +2,12 @@
 //! those of the ideal board, every move of which was allowed.
 
 use inputs::making::Making;
+use inputs::places::{is_clash_of_places, receipts_of_places};
 use inputs::random::Random;
 use inputs::tables::Shape;
 use reference::form::{read_step, Step};
 use reference::ideal::{reaches_honest_share, IdealBoard};
+use reference::season::Season;
 use reference::state::State;
 use reference::step::step;
 use reference::table::Table;
@@ -153,6 +155,9 @@ struct Tally {
     items_on_boards: usize,
     runs_with_receipt_after_board: usize,
     runs_with_clash_refused_in_a_later_period: usize,
+    runs_of_the_new_season: usize,
+    clashes_of_places: usize,
+    receipts_of_places: usize,
 }
 
 impl Tally {
@@ -167,6 +172,10 @@ impl Tally {
         self.items_on_boards += boards.iter().map(|(_, board)| board.len()).sum::<usize>();
         self.runs_with_receipt_after_board += receipt_after_board(run) as usize;
         self.runs_with_clash_refused_in_a_later_period += late_clash(run) as usize;
+        self.runs_of_the_new_season += (run.table.season == Season::New) as usize;
+        let clash = |(step, answer): &&(Vec<u8>, u8)| is_clash_of_places(&run.table, step, *answer);
+        self.clashes_of_places += run.calls.iter().filter(clash).count();
+        self.receipts_of_places += receipts_of_places(&run.table, &run.state);
     }
 
     fn shows_enough(&self) {
@@ -178,6 +187,9 @@ impl Tally {
         assert!(self.items_on_boards > 2000);
         assert!(self.runs_with_receipt_after_board > 100);
         assert!(self.runs_with_clash_refused_in_a_later_period > 500);
+        assert!((RUNS / 3..2 * RUNS / 3).contains(&self.runs_of_the_new_season));
+        assert!(self.clashes_of_places > 300);
+        assert!(self.receipts_of_places > 100);
     }
 }
 

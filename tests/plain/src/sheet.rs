@@ -2,12 +2,15 @@
 
 use crate::guards::{refuse_if, NAME, SHEET, UNKNOWN};
 use crate::state::{State, BOARD};
-use crate::table::HEADER;
 use crate::texts::{is_item, no_twins, place, read_texts, Texts, PAIR};
 use crate::{answer, valid_table, Done};
+use std::ops::RangeInclusive;
 
 /// The period and the count.
 const HEAD: usize = 2;
+
+/// The lengths of audits, of either season.
+const AUDITS: RangeInclusive<usize> = 5..=6;
 
 /// Writes the sheet of a period's board, and its length. What is refused leaves
 /// both as they were.
@@ -22,16 +25,18 @@ pub fn write_sheet(
 }
 
 fn write(table: &[u8], state: &[u8], period: u8, sheet: &mut [u8]) -> Result<usize, u8> {
-    valid_table(table, state)?.period(period)?;
+    let valid = valid_table(table, state)?;
+    valid.period(period)?;
+    let head = valid.season.head;
     let mut boards = State::of(state).entries().iter().filter(|entry| entry.kind == BOARD);
     let board = boards.find(|entry| entry.period == period).ok_or(UNKNOWN)?.board;
     let count = board.count_ones() as usize;
     let (mut at, mut end) = (HEAD, HEAD + PAIR * count);
-    let lengths = items(board).map(|item| place(table, HEADER, item)[1]);
+    let lengths = items(board).map(|item| place(table, head, item)[1]);
     refuse_if(end + lengths.sum::<usize>() > sheet.len(), SHEET)?;
     sheet[..HEAD].copy_from_slice(&[period, count as u8]);
     for item in items(board) {
-        let [offset, length] = place(table, HEADER, item);
+        let [offset, length] = place(table, head, item);
         sheet[at..at + 2].copy_from_slice(&(end as u16).to_be_bytes());
         sheet[at + 2..at + PAIR].copy_from_slice(&(length as u16).to_be_bytes());
         sheet[end..end + length].copy_from_slice(&table[offset..offset + length]);
@@ -62,7 +67,8 @@ fn need_sheet(sheet: &[u8]) -> Done {
     let mut texts: Texts = [&[]; 64];
     refuse_if(read_texts(sheet, HEAD, count, &mut texts) != Some(sheet.len()), SHEET)?;
     let texts = &texts[..count as usize];
-    refuse_if(!(texts.iter().all(|text| is_item(text)) && no_twins(texts)), SHEET)
+    let all_items = texts.iter().all(|text| is_item(text, AUDITS));
+    refuse_if(!(all_items && no_twins(texts)), SHEET)
 }
 
 /// Gives where an item stands. What is refused leaves both as they were.

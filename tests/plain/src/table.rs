@@ -3,11 +3,20 @@
 use crate::texts::{is_item, no_twins, read_texts, word, Texts};
 
 const LEAST: [u8; 16] = [1, 2, 3, 3, 4, 5, 5, 6, 7, 7, 8, 9, 9, 10, 11, 11];
-pub const HEADER: usize = 6;
-const VOTE: u8 = 1;
 const CANCELLATION: u8 = 3;
 
+/// What differs between the seasons: where the pairs begin, and an audit's length.
+#[derive(Clone, Copy)]
+pub struct Season {
+    pub head: usize,
+    audit: usize,
+}
+
+const OLD: Season = Season { head: 6, audit: 5 };
+const NEW: Season = Season { head: 8, audit: 6 };
+
 pub struct Table {
+    pub season: Season,
     pub n: u8,
     pub t: u8,
     pub honest: u16,
@@ -31,7 +40,7 @@ impl Table {
     fn read(bytes: &[u8], may_end: impl Fn(usize) -> bool) -> Result<(Table, usize), u8> {
         let mut table = header(bytes)?;
         let mut texts: Texts = [&[]; 64];
-        let end = read_texts(bytes, HEADER, table.m, &mut texts).ok_or(2)?;
+        let end = read_texts(bytes, table.season.head, table.m, &mut texts).ok_or(2)?;
         if !may_end(end) {
             return Err(2);
         }
@@ -41,8 +50,9 @@ impl Table {
 
     /// 3 for any item, then 4 for any two.
     fn read_items(&mut self, texts: &[&[u8]]) -> Result<(), u8> {
+        let audit = self.season.audit;
         for (k, text) in texts.iter().enumerate() {
-            if !is_item(text) {
+            if !is_item(text, audit..=audit) {
                 return Err(3);
             }
             self.ballots[k] = word(text, 0);
@@ -55,17 +65,17 @@ impl Table {
         }
     }
 
-    /// The items that clash with an item, as a set of bits.
+    /// The items that clash with an item, as a set of bits: all others of its ballot
+    /// but cancellations. Two audits of one ballot are twins or name two places.
     pub fn clashes(&self, item: usize) -> u64 {
-        let (ballot, kind) = (self.ballots[item], self.kinds[item]);
-        if kind == CANCELLATION {
+        let ballot = self.ballots[item];
+        if self.kinds[item] == CANCELLATION {
             return 0;
         }
         let mut mask = 0;
         for k in 0..self.m as usize {
-            let other = self.kinds[k];
-            let kinds = other != CANCELLATION && (kind == VOTE || other == VOTE);
-            mask |= ((self.ballots[k] == ballot && kinds) as u64) << k;
+            let clash = self.ballots[k] == ballot && self.kinds[k] != CANCELLATION;
+            mask |= (clash as u64) << k;
         }
         mask & !(1 << item)
     }
@@ -76,8 +86,14 @@ impl Table {
     }
 }
 
+/// The season and the fields. A 0 without a 2 behind it stands where n does, and is
+/// out of range.
 fn header(bytes: &[u8]) -> Result<Table, u8> {
-    let &[n, t, high, low, periods, m, ..] = bytes else {
+    let (season, fields) = match bytes {
+        [0, 2, fields @ ..] => (NEW, fields),
+        _ => (OLD, bytes),
+    };
+    let &[n, t, high, low, periods, m, ..] = fields else {
         return Err(1);
     };
     let honest = u16::from_be_bytes([high, low]);
@@ -89,5 +105,5 @@ fn header(bytes: &[u8]) -> Result<Table, u8> {
     if !good {
         return Err(1);
     }
-    Ok(Table { n, t, honest, periods, m, ballots: [0; 64], kinds: [0; 64] })
+    Ok(Table { season, n, t, honest, periods, m, ballots: [0; 64], kinds: [0; 64] })
 }

@@ -2,6 +2,7 @@
 //! mark out: a table has them, and a sheet.
 
 use crate::differ::all_differ;
+use std::ops::RangeInclusive;
 
 pub const PAIR: usize = 4;
 
@@ -32,9 +33,13 @@ fn numbers([a, b, c, d]: [u8; PAIR]) -> [usize; 2] {
     [[a, b], [c, d]].map(|number| u16::from_be_bytes(number) as usize)
 }
 
-/// Whether length and kind are an item's.
-pub fn is_item(text: &[u8]) -> bool {
-    matches!((text.get(4), text.len()), (Some(1), 6..=37) | (Some(2 | 3), 5))
+/// Whether length and kind are an item's, where audits may have these lengths.
+pub fn is_item(text: &[u8], audits: RangeInclusive<usize>) -> bool {
+    match (text.get(4), text.len()) {
+        (Some(1), 6..=37) | (Some(3), 5) => true,
+        (Some(2), length) => audits.contains(&length),
+        _ => false,
+    }
 }
 
 /// Whether the texts of items all differ.

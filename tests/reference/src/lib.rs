@@ -5,6 +5,7 @@
 //! which is about the buffer's bytes, has no place here.
 //!
 //! - `pairs`: pairs of offset and length, and the texts that they mark out
+//! - `season`: of which season a table is, and what that changes
 //! - `table`: the ballot table, its items, the clash, the thresholds
 //! - `state`: what is held outside and by each peer
 //! - `form`: 13 bytes as a step, or 5
@@ -23,6 +24,7 @@ pub mod ideal;
 pub mod pairs;
 mod refusals;
 pub mod report;
+pub mod season;
 pub mod sheet;
 pub mod state;
 pub mod step;

@@ -58,8 +58,9 @@ pub fn read_sheet(bytes: &[u8]) -> Result<Sheet, Refusal> {
     refuse_if(period >= MOST_PERIODS || count > MOST_ITEMS, Refusal::Sheet)?;
     let pairs = read_pairs(bytes, HEAD_LENGTH, count).ok_or(Refusal::Sheet)?;
     refuse_if(last_end(&pairs, HEAD_LENGTH) != bytes.len(), Refusal::Sheet)?;
-    // What is wrong with an item, or with two, is the sheet's fault here.
-    let items = read_items(bytes, &pairs).map_err(|_| Refusal::Sheet)?;
+    // It takes audits of either length. What is wrong with an item, or with two, is
+    // the sheet's fault here.
+    let items = read_items(bytes, &pairs, |_| true).map_err(|_| Refusal::Sheet)?;
     Ok(Sheet { period, items, pairs })
 }
 

@@ -1,6 +1,7 @@
 //! The ballot table: header, pairs, items, clash, thresholds; refusals 1 to 4.
 
 use crate::pairs::{last_end, read_pairs, two_bytes, write_pairs, Pair};
+use crate::season::Season;
 use crate::Refusal;
 use std::collections::BTreeSet;
 
@@ -11,11 +12,10 @@ pub const LEAST_THRESHOLD: [usize; 16] = [1, 2, 3, 3, 4, 5, 5, 6, 7, 7, 8, 9, 9,
 pub const MOST_PERIODS: usize = 8;
 pub const MOST_ITEMS: usize = 64;
 
-const HEADER_LENGTH: usize = 6;
-
 /// A table that none of 1 to 4 refuses.
 #[derive(Clone, Debug, PartialEq, Eq)]
 pub struct Table {
+    pub season: Season,
     pub n: usize,
     pub t: usize,
     /// The honest peers, counted from 1.
@@ -38,11 +38,15 @@ pub struct Item {
 pub enum Kind {
     /// With its 1 to 32 preference bytes.
     Vote(Vec<u8>),
+    /// Of the old season.
     Audit,
+    /// Of the new season, with the place that made it.
+    PlacedAudit(u8),
     Cancellation,
 }
 
 struct Header {
+    season: Season,
     n: usize,
     t: usize,
     honest: u16,
@@ -71,35 +75,45 @@ impl Table {
 }
 
 impl Item {
-    /// Its bytes: ballot number (4 bytes, high first), kind byte, preferences.
+    /// Its bytes: ballot number (4 bytes, high first), kind byte, and then the
+    /// preferences of a vote or the place of an audit.
     pub fn text(&self) -> Vec<u8> {
-        let (kind, preferences) = match &self.kind {
-            Kind::Vote(preferences) => (1, &preferences[..]),
-            Kind::Audit => (2, &[][..]),
-            Kind::Cancellation => (3, &[][..]),
+        let (kind, rest) = match &self.kind {
+            Kind::Vote(preferences) => (1, preferences.clone()),
+            Kind::Audit => (2, vec![]),
+            Kind::PlacedAudit(place) => (2, vec![*place]),
+            Kind::Cancellation => (3, vec![]),
         };
-        [&self.ballot.to_be_bytes()[..], &[kind], preferences].concat()
+        [&self.ballot.to_be_bytes()[..], &[kind], &rest].concat()
     }
 }
 
 /// Two different items of one ballot, neither a cancellation, at least one a
-/// vote.
+/// vote; or two audits of one ballot from different places.
 pub fn clash(x: &Item, y: &Item) -> bool {
     x != y
         && x.ballot == y.ballot
         && x.kind != Kind::Cancellation
         && y.kind != Kind::Cancellation
-        && (is_vote(x) || is_vote(y))
+        && (is_vote(x) || is_vote(y) || from_different_places(x, y))
 }
 
 fn is_vote(item: &Item) -> bool {
     matches!(item.kind, Kind::Vote(_))
 }
 
+/// Whether two audits name different places.
+fn from_different_places(x: &Item, y: &Item) -> bool {
+    match (&x.kind, &y.kind) {
+        (Kind::PlacedAudit(one), Kind::PlacedAudit(other)) => one != other,
+        _ => false,
+    }
+}
+
 /// A table that is all of the bytes given.
 pub fn read_table(bytes: &[u8]) -> Result<Table, Refusal> {
     let (header, pairs) = read_start(bytes)?;
-    if last_end(&pairs, HEADER_LENGTH) != bytes.len() {
+    if last_end(&pairs, header.season.head_length()) != bytes.len() {
         return Err(Refusal::Pairs);
     }
     finish(bytes, header, &pairs)
@@ -109,7 +123,7 @@ pub fn read_table(bytes: &[u8]) -> Result<Table, Refusal> {
 /// last pair's end.
 pub fn read_front(input: &[u8]) -> Result<(Table, usize), Refusal> {
     let (header, pairs) = read_start(input)?;
-    let end = last_end(&pairs, HEADER_LENGTH);
+    let end = last_end(&pairs, header.season.head_length());
     if end > input.len() {
         return Err(Refusal::Pairs);
     }
@@ -119,21 +133,25 @@ pub fn read_front(input: &[u8]) -> Result<(Table, usize), Refusal> {
 /// The header and the pairs: 1, and 2 but for the table's end.
 fn read_start(bytes: &[u8]) -> Result<(Header, Vec<Pair>), Refusal> {
     let header = read_header(bytes)?;
-    let pairs = read_pairs(bytes, HEADER_LENGTH, header.m).ok_or(Refusal::Pairs)?;
+    let head = header.season.head_length();
+    let pairs = read_pairs(bytes, head, header.m).ok_or(Refusal::Pairs)?;
     Ok((header, pairs))
 }
 
 /// 1: header cut short, or a header field out of range.
 fn read_header(bytes: &[u8]) -> Result<Header, Refusal> {
-    if bytes.len() < HEADER_LENGTH {
+    let season = Season::of(bytes);
+    if bytes.len() < season.head_length() {
         return Err(Refusal::Header);
     }
+    let fields = &bytes[season.mark().len()..];
     let header = Header {
-        n: bytes[0] as usize,
-        t: bytes[1] as usize,
-        honest: two_bytes(bytes, 2) as u16,
-        periods: bytes[4] as usize,
-        m: bytes[5] as usize,
+        season,
+        n: fields[0] as usize,
+        t: fields[1] as usize,
+        honest: two_bytes(fields, 2) as u16,
+        periods: fields[4] as usize,
+        m: fields[5] as usize,
     };
     if in_range(&header) {
         Ok(header)
@@ -153,19 +171,28 @@ fn in_range(header: &Header) -> bool {
 
 fn finish(bytes: &[u8], header: Header, pairs: &[Pair]) -> Result<Table, Refusal> {
     Ok(Table {
+        season: header.season,
         n: header.n,
         t: header.t,
         honest: peers_of(header.honest),
         periods: header.periods,
-        items: read_items(bytes, pairs)?,
+        items: read_items(bytes, pairs, |kind| header.season.has(kind))?,
     })
 }
 
-/// 3 for any item, then 4 for any two.
-pub fn read_items(bytes: &[u8], pairs: &[Pair]) -> Result<Vec<Item>, Refusal> {
+/// 3 for any item, also one of a kind that is not taken; then 4 for any two.
+pub fn read_items(
+    bytes: &[u8],
+    pairs: &[Pair],
+    takes: impl Fn(&Kind) -> bool,
+) -> Result<Vec<Item>, Refusal> {
     let mut items = Vec::new();
     for pair in pairs {
-        items.push(read_item(pair.text(bytes))?);
+        let item = read_item(pair.text(bytes))?;
+        if !takes(&item.kind) {
+            return Err(Refusal::Item);
+        }
+        items.push(item);
     }
     for k in 0..items.len() {
         if items[..k].contains(&items[k]) {
@@ -175,16 +202,18 @@ pub fn read_items(bytes: &[u8], pairs: &[Pair]) -> Result<Vec<Item>, Refusal> {
     Ok(items)
 }
 
-/// 3: length or kind wrong. Ballot number (4 bytes), kind byte, preferences.
+/// 3: length or kind wrong. Ballot number (4 bytes), kind byte, and then the
+/// preferences of a vote or, if it names one, the place of an audit.
 fn read_item(text: &[u8]) -> Result<Item, Refusal> {
     if text.len() < 5 {
         return Err(Refusal::Item);
     }
     let ballot = u32::from_be_bytes([text[0], text[1], text[2], text[3]]);
-    let preferences = &text[5..];
-    let kind = match (text[4], preferences.len()) {
-        (1, 1..=32) => Kind::Vote(preferences.to_vec()),
+    let rest = &text[5..];
+    let kind = match (text[4], rest.len()) {
+        (1, 1..=32) => Kind::Vote(rest.to_vec()),
         (2, 0) => Kind::Audit,
+        (2, 1) => Kind::PlacedAudit(rest[0]),
         (3, 0) => Kind::Cancellation,
         _ => return Err(Refusal::Item),
     };
@@ -196,9 +225,22 @@ fn peers_of(set: u16) -> BTreeSet<usize> {
     (1..=16).filter(|k| set >> (k - 1) & 1 == 1).collect()
 }
 
-/// The bytes of a table, its fields in document 01's order. Nothing is checked.
+/// The bytes of a table of the old season, its fields in document 01's order.
+/// Nothing is checked.
 pub fn write_table(n: u8, t: u8, honest: u16, periods: u8, items: &[Vec<u8>]) -> Vec<u8> {
+    write_table_of(Season::Old, n, t, honest, periods, items)
+}
+
+/// The same of a season.
+pub fn write_table_of(
+    season: Season,
+    n: u8,
+    t: u8,
+    honest: u16,
+    periods: u8,
+    items: &[Vec<u8>],
+) -> Vec<u8> {
     let [high, low] = honest.to_be_bytes();
-    let header = vec![n, t, high, low, periods, items.len() as u8];
-    [header, write_pairs(HEADER_LENGTH, items)].concat()
+    let header = [n, t, high, low, periods, items.len() as u8];
+    [season.mark(), &header, &write_pairs(season.head_length(), items)].concat()
 }

@@ -4,23 +4,19 @@ mod common;
 
 use common::*;
 use reference::form::Step;
-use reference::table::{clash, read_table, Item, Kind};
-
-fn number(table: &[u8]) -> u8 {
-    read_table(table).map_or_else(|refusal| refusal.number(), |_| 0)
-}
+use reference::table::{clash, Item, Kind};
 
 #[test]
 fn thresholds() {
-    assert_eq!(number(&table_bytes(3, 2, &[1], 1, &[])), 1);
-    assert_eq!(number(&table_bytes(3, 3, &[1], 1, &[])), 0);
-    assert_eq!(number(&table_bytes(16, 10, &[1], 1, &[])), 1);
-    assert_eq!(number(&table_bytes(16, 11, &[1], 1, &[])), 0);
+    assert_eq!(alone(&table_bytes(3, 2, &[1], 1, &[])), 1);
+    assert_eq!(alone(&table_bytes(3, 3, &[1], 1, &[])), 0);
+    assert_eq!(alone(&table_bytes(16, 10, &[1], 1, &[])), 1);
+    assert_eq!(alone(&table_bytes(16, 11, &[1], 1, &[])), 0);
 }
 
 #[test]
 fn item_lengths() {
-    let one = |item: Vec<u8>| number(&table_bytes(3, 3, &[1], 1, &[item]));
+    let one = |item: Vec<u8>| alone(&table_bytes(3, 3, &[1], 1, &[item]));
     let vote_of = |length: usize| vote(7, &vec![0; length - 5]);
     assert_eq!(one(vote_of(5)), 3);
     assert_eq!(one(vote_of(6)), 0);

@@ -223,7 +223,8 @@ fn items() {
             text.get_mut(4).into_iter().for_each(|byte| *byte = kind);
             let good = match kind {
                 1 => (6..=37).contains(&length),
-                2 | 3 => length == 5,
+                2 => length == 5 || length == 6,
+                3 => length == 5,
                 _ => false,
             };
             let [alone, behind] =

@@ -4,32 +4,12 @@
 mod common;
 
 use common::*;
+use reference::season::Season;
 use reference::table::{read_front, read_table};
-
-/// The table's number when it stands alone; 0 if taken.
-fn alone(bytes: &[u8]) -> u8 {
-    read_table(bytes).map_or_else(|refusal| refusal.number(), |_| 0)
-}
-
-/// The number of the table at the front of an input; 0 if taken.
-fn front(input: &[u8]) -> u8 {
-    read_front(input).map_or_else(|refusal| refusal.number(), |_| 0)
-}
-
-fn both(bytes: &[u8]) -> u8 {
-    assert_eq!(alone(bytes), front(bytes));
-    alone(bytes)
-}
 
 #[test]
 fn header_fields() {
-    let least = [1, 2, 3, 3, 4, 5, 5, 6, 7, 7, 8, 9, 9, 10, 11, 11];
-    for n in 0..=255u8 {
-        for t in 0..=255u8 {
-            let taken = (1..=16).contains(&n) && t >= least[n as usize - 1] && t <= n;
-            assert_eq!(both(&[n, t, 0, 0, 1, 0]) == 0, taken, "n {n} t {t}");
-        }
-    }
+    check_thresholds(&[]);
     for periods in 0..=255 {
         let expected = if (1..=8).contains(&periods) { 0 } else { 1 };
         assert_eq!(both(&[1, 1, 0, 1, periods, 0]), expected);
@@ -98,19 +78,19 @@ fn pairs_before_items() {
 
 #[test]
 fn items() {
-    let one = |item: Vec<u8>| both(&table_bytes(3, 3, &[1], 1, &[item]));
-    for length in 0..=40 {
-        for kind in 0..=5u8 {
+    for (season, audit) in [(Season::Old, 5), (Season::New, 6)] {
+        let one = |item: Vec<u8>| both(&table_bytes_of(season, 3, 3, &[1], 1, &[item]));
+        for (length, kind) in (0..=40).flat_map(|length| (0..=5).map(move |kind| (length, kind))) {
             let mut item = vec![0; length];
-            if length > 4 {
-                item[4] = kind;
-            }
+            item.get_mut(4).into_iter().for_each(|byte| *byte = kind);
             let taken = match kind {
                 1 => (6..=37).contains(&length),
-                2 | 3 => length == 5,
+                2 => length == audit,
+                3 => length == 5,
                 _ => false,
             };
-            assert_eq!(one(item), if taken { 0 } else { 3 }, "kind {kind} length {length}");
+            let expected = if taken { 0 } else { 3 };
+            assert_eq!(one(item), expected, "{season:?}, kind {kind}, length {length}");
         }
     }
 }

@@ -2,9 +2,10 @@
 #![allow(dead_code)]
 
 use reference::form::{write_step, Step};
+use reference::season::Season;
 use reference::state::State;
 use reference::step::step;
-use reference::table::{read_table, write_table, Table};
+use reference::table::{read_front, read_table, write_table_of, Table};
 
 pub fn vote(ballot: u32, preferences: &[u8]) -> Vec<u8> {
     [&ballot.to_be_bytes()[..], &[1], preferences].concat()
@@ -12,6 +13,10 @@ pub fn vote(ballot: u32, preferences: &[u8]) -> Vec<u8> {
 
 pub fn audit(ballot: u32) -> Vec<u8> {
     [&ballot.to_be_bytes()[..], &[2]].concat()
+}
+
+pub fn placed_audit(ballot: u32, place: u8) -> Vec<u8> {
+    [&ballot.to_be_bytes()[..], &[2, place]].concat()
 }
 
 pub fn cancellation(ballot: u32) -> Vec<u8> {
@@ -37,10 +42,49 @@ pub fn case_r_steps() -> Vec<Step> {
     ]
 }
 
-/// The bytes of a table, its honest peers listed.
+/// The bytes of a table of the old season, its honest peers listed.
 pub fn table_bytes(n: u8, t: u8, honest: &[usize], periods: u8, items: &[Vec<u8>]) -> Vec<u8> {
+    table_bytes_of(Season::Old, n, t, honest, periods, items)
+}
+
+/// The same of a season.
+pub fn table_bytes_of(
+    season: Season,
+    n: u8,
+    t: u8,
+    honest: &[usize],
+    periods: u8,
+    items: &[Vec<u8>],
+) -> Vec<u8> {
     let set = honest.iter().fold(0, |set, k| set | 1 << (k - 1));
-    write_table(n, t, set, periods, items)
+    write_table_of(season, n, t, set, periods, items)
+}
+
+/// The table's number when it stands alone; 0 if taken.
+pub fn alone(bytes: &[u8]) -> u8 {
+    read_table(bytes).map_or_else(|refusal| refusal.number(), |_| 0)
+}
+
+/// The number of the table at the front of an input; 0 if taken.
+pub fn front(input: &[u8]) -> u8 {
+    read_front(input).map_or_else(|refusal| refusal.number(), |_| 0)
+}
+
+/// Both, where they are the same.
+pub fn both(bytes: &[u8]) -> u8 {
+    assert_eq!(alone(bytes), front(bytes));
+    alone(bytes)
+}
+
+/// Every n and t, in a header behind what its season starts with: taken from document
+/// 01's least threshold for n up to n.
+pub fn check_thresholds(mark: &[u8]) {
+    let least = [1, 2, 3, 3, 4, 5, 5, 6, 7, 7, 8, 9, 9, 10, 11, 11];
+    for (n, t) in (0..=255u8).flat_map(|n| (0..=255u8).map(move |t| (n, t))) {
+        let taken = (1..=16).contains(&n) && t >= least[n as usize - 1] && t <= n;
+        let table = [mark, &[n, t, 0, 0, 1, 0]].concat();
+        assert_eq!(both(&table) == 0, taken, "n {n} t {t}");
+    }
 }
 
 /// The bytes of a rehearsal: a table, then steps.
