@@ -55,20 +55,24 @@ static unsigned long number_at(const uint8_t *at, int bytes) {
     return number;
 }
 
-/* The length of the table at the front of a rehearsal: it ends where its last pair says. */
+/* The length of the table at the front of a rehearsal: it ends where its last pair says. One that starts with 0 is of
+ * season 2. */
 static size_t length_of_table(const uint8_t *input) {
-    size_t pairs_end = BOARD_TABLE_PAIRS_AT + BOARD_PAIR_LENGTH * (size_t)input[BOARD_TABLE_ITEMS_AT];
+    size_t header_at = input[0] == 0 ? BOARD_SEASON_LENGTH : 0;
+    size_t pairs_at = header_at + BOARD_TABLE_PAIRS_AT;
+    size_t pairs_end = pairs_at + BOARD_PAIR_LENGTH * (size_t)input[header_at + BOARD_TABLE_ITEMS_AT];
     const uint8_t *last = input + pairs_end - BOARD_PAIR_LENGTH;
-    return pairs_end == BOARD_TABLE_PAIRS_AT ? pairs_end
+    return pairs_end == pairs_at ? pairs_end
         : number_at(last + BOARD_PAIR_OFFSET_AT, 2) + number_at(last + BOARD_PAIR_SIZE_AT, 2);
 }
 
+/* A vote has preferences after its kind; an audit has its place or nothing, a cancellation nothing. */
 static void print_item(const uint8_t *item, size_t length) {
     uint8_t kind = item[BOARD_ITEM_KIND_AT];
     printf("%s %lu", kind == BOARD_ITEM_VOTE ? "vote" : kind == BOARD_ITEM_AUDIT ? "audit" : "cancel",
            number_at(item + BOARD_ITEM_BALLOT_AT, 4));
     for (size_t i = BOARD_ITEM_PREFERENCES_AT; i < length; i++) {
-        printf(" %02X", item[i]);
+        printf(kind == BOARD_ITEM_AUDIT ? " place %d" : " %02X", item[i]);
     }
     printf("\n");
 }

@@ -4,6 +4,7 @@
 use crate::reasons::input::{why, Fault, Place};
 use crate::reasons::phrases::{comma_list, count, word};
 use crate::reasons::{Telling, Told, NO_REASON};
+use crate::season::Season;
 use crate::steps::{write_step, STEP_LENGTH};
 use crate::{read, Written};
 use reference::report::INPUT_SIZE;
@@ -18,8 +19,8 @@ pub enum Which {
     Last,
 }
 
-/// Whether an input is text. Bytes begin with a table, whose fifth byte is the
-/// number of periods, 1 to 8: no text has such a byte.
+/// Whether an input is text. Bytes begin with a table, whose first byte is 0 or
+/// whose fifth is the number of periods, 1 to 8: no text has such a byte.
 pub fn is_text(input: &[u8]) -> bool {
     !input.is_empty() && input.iter().all(|byte| *byte >= b' ' || b"\t\n\r".contains(byte))
 }
@@ -36,10 +37,16 @@ pub fn explain_bytes(input: &[u8], which: Which) -> String {
 }
 
 fn explain(input: &[u8], written: Option<&Written>, which: Which) -> String {
-    let mut lines = match front(input) {
-        Ok((table, end)) => told_steps(&table, &input[end..], written, which),
-        Err(refusal) => told_refusal(input, written, refusal),
-    };
+    let mut lines = Vec::new();
+    match front(input) {
+        Ok((table, end)) => {
+            if which == Which::All {
+                lines.push(told_table(Season::of(input), &table));
+            }
+            lines.extend(told_steps(&table, &input[end..], written, which));
+        }
+        Err(refusal) => lines.extend(told_refusal(input, written, refusal)),
+    }
     lines.push(String::new());
     lines.join("\n")
 }
@@ -74,9 +81,6 @@ fn told_steps(table: &Table, steps: &[u8], written: Option<&Written>, which: Whi
     let mut telling = Telling::on(table);
     let mut lines = Vec::new();
     let (all, mut refused) = (steps.chunks(STEP_LENGTH).len(), 0);
-    if which == Which::All {
-        lines.push(told_table(table));
-    }
     for (k, bytes) in steps.chunks(STEP_LENGTH).enumerate() {
         let told = telling.tell(bytes);
         refused += told.refusal.is_some() as usize;
@@ -99,7 +103,7 @@ fn is_told(which: Which, told: &Told, is_last: bool) -> bool {
     }
 }
 
-fn told_table(table: &Table) -> String {
+fn told_table(season: Season, table: &Table) -> String {
     let honest = match table.honest.is_empty() {
         true => "none".to_string(),
         false => comma_list(&table.honest),
@@ -107,7 +111,8 @@ fn told_table(table: &Table) -> String {
     let [peers, periods, items] =
         [(table.n, "peer"), (table.periods, "period"), (table.m(), "item")]
             .map(|(number, what)| count(number, what));
-    format!("table: {peers}, honest {honest}; threshold {}; {periods}, {items}", table.t)
+    let (start, t) = (season.table(), table.t);
+    format!("{start}: {peers}, honest {honest}; threshold {t}; {periods}, {items}")
 }
 
 /// The step with its line and number.

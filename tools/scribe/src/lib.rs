@@ -2,6 +2,7 @@
 //! README.md has the grammar.
 //!
 //! - `words`, `table`, `steps`: the lines of the text, and their bytes
+//! - `season`: what a table's first bytes tell, and what depends on it
 //! - `pairs`: offsets and lengths, and the texts of items that they mark out
 //! - `written`: a rehearsal read from text, with the place of each thing
 //! - `names`: names that a table does not have
@@ -17,6 +18,7 @@ pub mod explain;
 mod names;
 mod pairs;
 pub mod reasons;
+mod season;
 mod sheet;
 mod steps;
 mod table;

@@ -2,6 +2,7 @@
 
 use crate::reasons::phrases::{comma_list, item_list};
 use crate::steps::{items_of, op, value, Field};
+use crate::table::Header;
 use reference::table::Table;
 
 /// How many peers, periods and items a table has.
@@ -12,9 +13,10 @@ pub struct Bounds {
 }
 
 impl Bounds {
-    /// Of a header's bytes, whether they are in range or not.
-    pub fn of_header(bytes: &[u8]) -> Bounds {
-        Bounds { peers: bytes[0] as u64, periods: bytes[4] as u64, items: bytes[5] as u64 }
+    /// Of a header and so many items, whether they are in range or not.
+    pub fn of_header(header: &Header, items: usize) -> Bounds {
+        let [peers, _, _, _, periods] = header.map(u64::from);
+        Bounds { peers, periods, items: items as u64 }
     }
 
     pub fn of(table: &Table) -> Bounds {
@@ -52,7 +54,7 @@ impl Bounds {
     }
 
     /// The honest peers of a header that its table does not have.
-    pub fn strange_honest(&self, header: &[u8]) -> Vec<String> {
+    pub fn strange_honest(&self, header: &Header) -> Vec<String> {
         let set = u16::from_be_bytes([header[2], header[3]]);
         let honest = (1..=16).filter(|peer| set >> (peer - 1) & 1 == 1);
         let beyond: Vec<usize> = honest.filter(|peer| *peer as u64 > self.peers).collect();

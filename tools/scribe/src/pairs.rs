@@ -2,8 +2,8 @@
 //! table behind its header, in a sheet behind its two bytes.
 
 use crate::reasons::phrases::count;
+use crate::season::Season;
 use crate::sheet::HEAD_LENGTH;
-use crate::table::HEADER_LENGTH;
 
 pub const PAIR_LENGTH: usize = 4;
 
@@ -26,7 +26,8 @@ pub struct Fault {
 impl<'a> Pairs<'a> {
     /// Of a table at the front of an input that has a header.
     pub fn of_input(bytes: &'a [u8]) -> Pairs<'a> {
-        Pairs { bytes, whole: "input", start: HEADER_LENGTH, count: bytes[5] as usize }
+        let start = Season::of(bytes).header_end();
+        Pairs { bytes, whole: "input", start, count: bytes[start - 1] as usize }
     }
 
     /// Of a sheet that has a period and a count.

@@ -5,12 +5,15 @@
 use crate::pairs::Pairs;
 use crate::reasons::items::{no_item, twin};
 use crate::reasons::phrases::count;
+use crate::season::Season;
 use crate::table::write_item;
 
 /// The period and the count.
 pub const HEAD_LENGTH: usize = 2;
 const LAST_PERIOD: u8 = 7;
 const MOST_ITEMS: u8 = 64;
+/// It does not say of which season its table is.
+const SEASONS: [Season; 2] = [Season::First, Season::Second];
 
 /// The text of a sheet: its period, then a line for each item. An error says
 /// what makes the bytes no sheet.
@@ -29,7 +32,7 @@ fn texts(bytes: &[u8]) -> Result<Vec<&[u8]>, String> {
         return Err(format!("{} after {last}", count(bytes.len() - end, "byte")));
     }
     let items = texts.iter().enumerate();
-    let wrong = items.filter_map(|(k, text)| no_item(k, text)).next();
+    let wrong = items.filter_map(|(k, text)| no_item(k, text, &SEASONS)).next();
     match wrong.or_else(|| Some(twin(&texts)?.1)) {
         Some(fact) => Err(fact),
         None => Ok(texts),

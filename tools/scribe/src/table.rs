@@ -1,29 +1,45 @@
-//! The ballot table: header, pairs and items. The pairs are not written in
-//! the text; they follow from the items.
+//! The ballot table: season, header, pairs and items. The pairs are not written
+//! in the text; they follow from the items.
 
 use crate::hexadecimal;
 use crate::pairs::{Pairs, PAIR_LENGTH};
+use crate::season::{Season, HEADER_LENGTH};
 use crate::words::Line;
 
 pub const HEADER_FORM: &str = "peers N threshold T honest K .. periods P";
 
-pub const HEADER_LENGTH: usize = 6;
 /// The most that two bytes hold.
 const TWO_BYTES: usize = 65_535;
 /// The most items that the header's byte can count.
 const MOST_ITEMS: usize = 255;
 
 /// The header's first five bytes; the sixth counts the items.
-pub type Header = [u8; 5];
+pub type Header = [u8; HEADER_LENGTH - 1];
 
 /// An item's bytes, and the line that it was written on.
 pub struct Item {
     line: usize,
-    bytes: Vec<u8>,
+    pub bytes: Vec<u8>,
+}
+
+/// Whether the line says the season.
+pub fn is_season(line: &Line) -> bool {
+    line.name() == "season"
+}
+
+/// `season 2`
+pub fn read_season(mut line: Line) -> Result<Season, String> {
+    line.word("season")?;
+    if line.peek() != Some("2") {
+        return Err(line.expected("'2' (a table of the first season has no such line)"));
+    }
+    line.word("2")?;
+    line.end()?;
+    Ok(Season::Second)
 }
 
 /// `peers N threshold T honest K .. periods P`
-pub fn read_header(mut line: Line) -> Result<Header, String> {
+pub fn read_header(mut line: Line, season: Season) -> Result<Header, String> {
     if line.name() != "peers" {
         return Err(line.expected(&format!("'{HEADER_FORM}'")));
     }
@@ -37,7 +53,12 @@ pub fn read_header(mut line: Line) -> Result<Header, String> {
     let periods = line.number("a number of periods", 0, 255)?;
     line.end()?;
     let set = honest.iter().fold(0u16, |set, k| set | 1 << (k - 1)).to_be_bytes();
-    Ok([n as u8, t as u8, set[0], set[1], periods as u8])
+    let header = [n as u8, t as u8, set[0], set[1], periods as u8];
+    if season == Season::First && Season::of(&header) != season {
+        let told = format!("a table that starts with {n} and {t} is of season 2");
+        return Err(line.error(&format!("expected no threshold {t} of {n} peers: {told}")));
+    }
+    Ok(header)
 }
 
 /// Whether the line is an item and no step.
@@ -45,7 +66,7 @@ pub fn is_item(line: &Line) -> bool {
     ["vote", "audit", "cancel", "item"].contains(&line.name())
 }
 
-/// `vote B XX ..`, `audit B`, `cancel B`, `item XX ..`
+/// `vote B XX ..`, `audit B`, `audit B place L`, `cancel B`, `item XX ..`
 pub fn read_item(mut line: Line) -> Result<Item, String> {
     let name = line.name();
     line.word(name)?;
@@ -58,22 +79,36 @@ pub fn read_item(mut line: Line) -> Result<Item, String> {
             bytes.push(1);
             bytes.extend(line.bytes("a preference byte")?);
         }
-        "audit" => bytes.push(2),
+        "audit" => {
+            bytes.push(2);
+            bytes.extend(read_place(&mut line)?);
+        }
         _ => bytes.push(3),
     }
     line.end()?;
     Ok(Item { line: line.number, bytes })
 }
 
-/// The table's bytes: header, pairs, items.
-pub fn lay_out(header: Header, items: &[Item]) -> Result<Vec<u8>, String> {
+/// `place L`, or nothing.
+fn read_place(line: &mut Line) -> Result<Option<u8>, String> {
+    match line.peek() {
+        None => Ok(None),
+        Some("place") => {
+            line.word("place")?;
+            Ok(Some(line.number("a place", 0, 255)? as u8))
+        }
+        Some(_) => Err(line.expected("'place' or the end of the line")),
+    }
+}
+
+/// The table's bytes: what tells the season, header, pairs, items.
+pub fn lay_out(season: Season, header: Header, items: &[Item]) -> Result<Vec<u8>, String> {
     if items.len() > MOST_ITEMS {
         let line = items[MOST_ITEMS].line;
         return Err(format!("line {line}: expected at most {MOST_ITEMS} items"));
     }
-    let mut bytes = header.to_vec();
-    bytes.push(items.len() as u8);
-    let mut offset = HEADER_LENGTH + PAIR_LENGTH * items.len();
+    let mut bytes = [season.front(), &header, &[items.len() as u8]].concat();
+    let mut offset = season.header_end() + PAIR_LENGTH * items.len();
     for item in items {
         let length = item.bytes.len();
         if offset > TWO_BYTES || length > TWO_BYTES {
@@ -92,21 +127,27 @@ pub fn lay_out(header: Header, items: &[Item]) -> Result<Vec<u8>, String> {
 
 /// The lines of the table at the front of the input, and where it ends.
 pub fn write_table(input: &[u8]) -> Result<(Vec<String>, usize), String> {
-    let start = "no text for this table";
-    if input.len() < HEADER_LENGTH {
-        return Err(format!("{start}: header of {} bytes, not {HEADER_LENGTH}", input.len()));
-    }
-    let texts = Pairs::of_input(input).texts();
-    let (texts, end) = texts.map_err(|fault| format!("{start}: {}", fault.fact))?;
-    let items = texts.into_iter().map(write_item);
-    Ok((std::iter::once(write_header(input)).chain(items).collect(), end))
+    let without = |fact: String| format!("no text for this table: {fact}");
+    let season = Season::of(input);
+    let header = season.header(input).map_err(without)?;
+    let (texts, end) = Pairs::of_input(input).texts().map_err(|fault| without(fault.fact))?;
+    let mut lines: Vec<String> = write_season(season).into_iter().collect();
+    lines.push(write_header(header));
+    lines.extend(texts.into_iter().map(write_item));
+    Ok((lines, end))
 }
 
-fn write_header(input: &[u8]) -> String {
-    let set = u16::from_be_bytes([input[2], input[3]]);
+/// The season's line, with the number that its tables start with; the first has none.
+fn write_season(season: Season) -> Option<String> {
+    Some(format!("season {}", season.front().last()?))
+}
+
+fn write_header(header: &[u8; HEADER_LENGTH]) -> String {
+    let [n, t, high, low, periods, _] = *header;
+    let set = u16::from_be_bytes([high, low]);
     let peers = (1..=16).filter(|k| set >> (k - 1) & 1 == 1);
     let honest: String = peers.map(|k| format!(" {k}")).collect();
-    format!("peers {} threshold {} honest{honest} periods {}", input[0], input[1], input[4])
+    format!("peers {n} threshold {t} honest{honest} periods {periods}")
 }
 
 /// The line of an item, or of bytes that are none.
@@ -115,10 +156,11 @@ pub fn write_item(item: &[u8]) -> String {
         return format!("item{}", hexadecimal(item));
     }
     let ballot = u32::from_be_bytes([item[0], item[1], item[2], item[3]]);
-    match (item[4], item.len()) {
-        (1, _) => format!("vote {ballot}{}", hexadecimal(&item[5..])),
-        (2, 5) => format!("audit {ballot}"),
-        (3, 5) => format!("cancel {ballot}"),
+    match &item[4..] {
+        [1, preferences @ ..] => format!("vote {ballot}{}", hexadecimal(preferences)),
+        [2] => format!("audit {ballot}"),
+        [2, place] => format!("audit {ballot} place {place}"),
+        [3] => format!("cancel {ballot}"),
         _ => format!("item{}", hexadecimal(item)),
     }
 }

@@ -1,8 +1,10 @@
 //! A rehearsal read from text: its bytes, and where each thing stands.
 
 use crate::names::Bounds;
+use crate::reasons::items::no_item;
+use crate::season::Season;
 use crate::steps::{read_step, STEP_LENGTH};
-use crate::table::{is_item, lay_out, read_header, read_item, HEADER_FORM};
+use crate::table::{is_item, is_season, lay_out, read_header, read_item, read_season, HEADER_FORM};
 use crate::words::{lines, Line};
 
 /// A rehearsal that was read from text.
@@ -12,8 +14,8 @@ pub struct Written {
     pub header: Source,
     pub items: Vec<Source>,
     pub steps: Vec<Source>,
-    /// Names that the table does not have, each with its line. They are written
-    /// all the same.
+    /// Names that the table does not have and audits that are not of its season,
+    /// each with its line. They are written all the same.
     pub warnings: Vec<String>,
 }
 
@@ -26,33 +28,50 @@ pub struct Source {
 /// Reads a rehearsal written as text. An error names its line.
 pub fn read(text: &str) -> Result<Written, String> {
     let mut lines = lines(text).peekable();
+    let (mut season, mut next) = (Season::First, 1);
+    if let Some(line) = lines.next_if(is_season) {
+        next = line.number + 1;
+        season = read_season(line)?;
+    }
     let Some(first) = lines.next() else {
-        return Err(format!("line 1: expected '{HEADER_FORM}', found no line"));
+        return Err(format!("line {next}: expected '{HEADER_FORM}', found no line"));
     };
-    let mut written = read_table(first, std::iter::from_fn(|| lines.next_if(is_item)))?;
-    written.read_steps(lines)?;
+    let items = std::iter::from_fn(|| lines.next_if(is_item));
+    let (mut written, bounds) = read_table(season, first, items)?;
+    written.read_steps(bounds, lines)?;
     Ok(written)
 }
 
 fn read_table<'a>(
+    season: Season,
     first: Line<'a>,
     items: impl Iterator<Item = Line<'a>>,
-) -> Result<Written, String> {
+) -> Result<(Written, Bounds), String> {
     let header = first.source();
-    let head = read_header(first)?;
-    let (mut sources, mut texts) = (Vec::new(), Vec::new());
-    for line in items {
-        sources.push(line.source());
-        texts.push(read_item(line)?);
+    let head = read_header(first, season)?;
+    let (mut sources, mut texts, mut strange) = (Vec::new(), Vec::new(), Vec::new());
+    for (k, line) in items.enumerate() {
+        let (source, is_audit) = (line.source(), line.name() == "audit");
+        let item = read_item(line)?;
+        if is_audit {
+            strange.extend(located(&source, no_item(k, &item.bytes, &[season])));
+        }
+        sources.push(source);
+        texts.push(item);
     }
-    let bytes = lay_out(head, &texts)?;
-    let warnings = located(&header, Bounds::of_header(&bytes).strange_honest(&bytes));
-    Ok(Written { bytes, header, items: sources, steps: Vec::new(), warnings })
+    let bytes = lay_out(season, head, &texts)?;
+    let bounds = Bounds::of_header(&head, texts.len());
+    let honest = located(&header, bounds.strange_honest(&head));
+    let warnings = honest.chain(strange).collect();
+    Ok((Written { bytes, header, items: sources, steps: Vec::new(), warnings }, bounds))
 }
 
 impl Written {
-    fn read_steps<'a>(&mut self, lines: impl Iterator<Item = Line<'a>>) -> Result<(), String> {
-        let bounds = Bounds::of_header(&self.bytes);
+    fn read_steps<'a>(
+        &mut self,
+        bounds: Bounds,
+        lines: impl Iterator<Item = Line<'a>>,
+    ) -> Result<(), String> {
         let mut short = None;
         for line in lines {
             if let Some(number) = short {
@@ -61,6 +80,9 @@ impl Written {
             }
             if is_item(&line) {
                 return Err(line.expected("a step or 'raw' (items stand before the first step)"));
+            }
+            if is_season(&line) {
+                return Err(line.expected("an item, a step or 'raw' (the season stands first)"));
             }
             let (source, is_raw) = (line.source(), line.name() == "raw");
             let step = read_step(line)?;
@@ -78,6 +100,10 @@ impl Written {
 }
 
 /// The messages with the line that they are of.
-fn located(source: &Source, messages: Vec<String>) -> Vec<String> {
-    messages.into_iter().map(|message| format!("line {}: {message}", source.line)).collect()
+fn located(
+    source: &Source,
+    messages: impl IntoIterator<Item = String>,
+) -> impl Iterator<Item = String> {
+    let line = source.line;
+    messages.into_iter().map(move |message| format!("line {line}: {message}"))
 }

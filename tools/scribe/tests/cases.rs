@@ -1,4 +1,4 @@
-//! The cases explained: the answers that their texts say after `#`, and two of
+//! The cases explained: the answers that their texts say after `#`, and some of
 //! them in full, written by hand.
 
 use scribe::explain::{explain_bytes, explain_text, Which};
@@ -62,6 +62,25 @@ line 69, step 39: receipt 0 0
 42 steps: 37 done, 5 refused
 ";
     assert_eq!(told, expected);
+}
+
+#[test]
+fn tables_that_are_refused() {
+    for (name, expected) in [
+        (
+            "threshold-too-low",
+            "line 7: peers 3 threshold 2 honest 1 2 periods 1\n    \
+                refused 1 header: threshold 2, but with 3 peers it must be 3\n",
+        ),
+        (
+            "bare-audit",
+            "line 10: audit 8\n    \
+                refused 3 item: item 1 is an audit with 0 bytes after its kind, \
+                but in season 2 it has 1, its place\n",
+        ),
+    ] {
+        assert_eq!(explain_text(&case(name), Which::All).unwrap(), expected);
+    }
 }
 
 #[test]

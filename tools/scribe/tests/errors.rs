@@ -33,13 +33,49 @@ fn headers() {
 }
 
 #[test]
+fn seasons() {
+    let form = "'peers N threshold T honest K .. periods P'";
+    let two = "'2' (a table of the first season has no such line)";
+    for (lines, expected) in [
+        ("season", format!("line 1: expected {two}, found the end of the line")),
+        ("season 1", format!("line 1: expected {two}, found '1'")),
+        ("season 3", format!("line 1: expected {two}, found '3'")),
+        ("season 2 3", "line 1: expected the end of the line, found '3'".to_string()),
+        ("season 2", format!("line 2: expected {form}, found no line")),
+        ("\n# a comment\nseason 2\n", format!("line 4: expected {form}, found no line")),
+        ("season 2\nseason 2", format!("line 2: expected {form}, found 'season'")),
+        ("season 2\naudit 7 place 5", format!("line 2: expected {form}, found 'audit'")),
+    ] {
+        assert_eq!(bytes(lines).unwrap_err(), expected, "{lines}");
+    }
+    let late = "an item, a step or 'raw' (the season stands first), found 'season'";
+    assert_eq!(third("season 2"), format!("line 3: expected {late}"));
+    assert_eq!(third("audit 7\npost 0\nseason 2"), format!("line 5: expected {late}"));
+}
+
+/// Its bytes would be those of another table.
+#[test]
+fn a_header_of_another_season() {
+    let line = "peers 0 threshold 2 honest 1 periods 1\n";
+    let expected =
+        "line 1: expected no threshold 2 of 0 peers: a table that starts with 0 and 2 is of season 2";
+    assert_eq!(bytes(line).unwrap_err(), expected);
+    let second = bytes(&format!("season 2\n{line}")).unwrap();
+    assert_eq!(second, [0, 2, 0, 2, 0, 1, 1, 0]);
+}
+
+#[test]
 fn items_and_steps() {
     let cases = [
         ("vote", "a ballot number (0 to 4294967295), found the end of the line"),
         ("vote 4294967296 00", "a ballot number (0 to 4294967295), found '4294967296'"),
         ("vote 7 1", "a preference byte of two hexadecimal digits, found '1'"),
         ("vote 7 +1", "a preference byte of two hexadecimal digits, found '+1'"),
-        ("audit 7 00", "the end of the line, found '00'"),
+        ("audit 7 00", "'place' or the end of the line, found '00'"),
+        ("audit 7 place", "a place (0 to 255), found the end of the line"),
+        ("audit 7 place 256", "a place (0 to 255), found '256'"),
+        ("audit 7 place 5 6", "the end of the line, found '6'"),
+        ("cancel 7 place 5", "the end of the line, found 'place'"),
         ("cancel", "a ballot number (0 to 4294967295), found the end of the line"),
         ("item 0G", "an item byte of two hexadecimal digits, found '0G'"),
         ("vot 7", "an item (before the first step), a step or 'raw', found 'vot'"),
@@ -75,7 +111,16 @@ fn order_of_lines() {
 fn tables_without_text() {
     let error = |input: &[u8]| text(input).unwrap_err();
     let start = "no text for this table";
-    assert_eq!(error(&[1, 1]), format!("{start}: header of 2 bytes, not 6"));
+    let [first, second] = ["table has at least 6", "table of season 2 has at least 8"];
+    assert_eq!(error(&[1, 1]), format!("{start}: 2 bytes, but a {first}"));
+    assert_eq!(error(&[0]), format!("{start}: 1 byte, but a {first}"));
+    assert_eq!(error(&[0, 2]), format!("{start}: 2 bytes, but a {second}"));
+    assert_eq!(error(&[0, 2, 1, 1, 0, 1, 1]), format!("{start}: 7 bytes, but a {second}"));
+    let second = [0, 2, 1, 1, 0, 1, 1, 1, 0, 10, 0, 0];
+    assert_eq!(
+        error(&second),
+        format!("{start}: item 0 has offset 10, but the pairs end at byte 12")
+    );
     let short = "the pairs of 2 items end at byte 14, but the input at byte 8";
     assert_eq!(error(&[1, 1, 0, 1, 1, 2, 0, 14]), format!("{start}: {short}"));
     let offset = [1, 1, 0, 1, 1, 1, 0, 11, 0, 0];

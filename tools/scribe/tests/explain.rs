@@ -9,13 +9,19 @@ const TABLE: &str = "peers 4 threshold 3 honest 1 2 3 periods 2\n\
 
 /// Each step with what is told of it. The first step stands on line 6.
 fn check(steps: &[(&str, &str)]) {
+    let told = "table: 4 peers, honest 1, 2, 3; threshold 3; 2 periods, 4 items";
+    check_on((TABLE, told), steps);
+}
+
+/// The same on a table, with what is told of it. The steps stand behind it.
+fn check_on((table, told_table): (&str, &str), steps: &[(&str, &str)]) {
     let lines: String = steps.iter().map(|(step, _)| format!("{step}\n")).collect();
-    let explanation = explain_text(&format!("{TABLE}{lines}"), Which::All).unwrap();
+    let explanation = explain_text(&format!("{table}{lines}"), Which::All).unwrap();
     let told: Vec<&str> = explanation.lines().collect();
-    let table = "table: 4 peers, honest 1, 2, 3; threshold 3; 2 periods, 4 items";
-    assert_eq!(told[0], table);
+    assert_eq!(told[0], told_table);
+    let first = table.lines().count() + 1;
     for (k, (step, expected)) in steps.iter().enumerate() {
-        assert_eq!(told[1 + 2 * k], format!("line {}, step {}: {step}", 6 + k, 1 + k));
+        assert_eq!(told[1 + 2 * k], format!("line {}, step {}: {step}", first + k, 1 + k));
         assert_eq!(told[2 + 2 * k], format!("    {expected}"), "{step}");
     }
     assert_eq!(told.len(), 2 + 2 * steps.len());
@@ -173,6 +179,35 @@ fn forms_names_roles_and_outages() {
         ),
         ("raw 01 00", "5 form: 2 bytes, but a step has 13"),
     ]);
+}
+
+/// Audits of one ballot clash if their places differ, and a vote clashes with
+/// each; a cancellation clashes with none.
+#[test]
+fn audits_from_two_places() {
+    let table = "season 2\npeers 4 threshold 3 honest 1 2 3 periods 2\n\
+        audit 7 place 2\naudit 7 place 255\nvote 7 01\ncancel 7\naudit 8 place 255\n";
+    let told = "table of season 2: 4 peers, honest 1, 2, 3; threshold 3; 2 periods, 5 items";
+    let held = "what peer 1 holds: item 0 (audit of ballot 7 from place 2) in period 0";
+    let audit = format!("11 clash: item 1 (audit of ballot 7 from place 255) clashes with {held}");
+    let vote = format!("11 clash: item 2 (vote on ballot 7) clashes with {held}");
+    let steps = [
+        ("post 0", "0 done: item 0 is posted"),
+        ("post 1", "0 done: item 1 is posted"),
+        ("post 2", "0 done: item 2 is posted"),
+        ("post 3", "0 done: item 3 is posted"),
+        ("post 4", "0 done: item 4 is posted"),
+        ("hand 1 0", "0 done: peer 1 holds item 0 in period 0"),
+        ("hand 1 1", &audit),
+        ("hand 1 2", &vote),
+        ("hand 1 3", "0 done: peer 1 holds item 3 in period 0"),
+        ("hand 1 4", "0 done: peer 1 holds item 4 in period 0"),
+        ("hand 2 1", "0 done: peer 2 holds item 1 in period 0"),
+        ("close 1", "0 done: peer 1 has closed period 0, and period 1 is open"),
+        ("hand 1 1", &audit),
+        ("hand 1 0", "0 done: peer 1 holds item 0 in period 1"),
+    ];
+    check_on((table, told), &steps);
 }
 
 /// 256 different false hashes of one period, and then one more.

@@ -1,5 +1,5 @@
 //! Explanations of tables and inputs that are refused, written by hand from
-//! document 01.
+//! document 01 and from document 02's P5.
 
 use reference::table::write_table;
 use scribe::explain::{explain_bytes, explain_text, Which};
@@ -31,6 +31,32 @@ fn tables_in_text() {
             "line 6: audit 7",
             "4 twin: items 0 and 2 are the same",
         ),
+        (
+            format!("{header}\naudit 7\naudit 7 place 5"),
+            "line 4: audit 7 place 5",
+            "3 item: item 1 is an audit with 1 byte after its kind, but in the first season it has none",
+        ),
+        (
+            format!("season 2\n{header}\naudit 7 place 5\naudit 7"),
+            "line 5: audit 7",
+            "3 item: item 1 is an audit with 0 bytes after its kind, but in season 2 it has 1, its place",
+        ),
+        (
+            format!("season 2\n{header}\naudit 7 place 5\naudit 7 place 6\naudit 7 place 5"),
+            "line 6: audit 7 place 5",
+            "4 twin: items 0 and 2 are the same",
+        ),
+        (
+            "season 2\npeers 3 threshold 2 honest 1 periods 1".to_string(),
+            "line 3: peers 3 threshold 2 honest 1 periods 1",
+            "1 header: threshold 2, but with 3 peers it must be 3",
+        ),
+        (
+            "peers 0 threshold 3 honest 1 periods 1".to_string(),
+            "line 2: peers 0 threshold 3 honest 1 periods 1",
+            "1 header: 0 peers, but a table has 1 to 16, \
+                and one of season 2 starts with 0 and 2, not with 0 and 3",
+        ),
     ] {
         assert_eq!(refused(&lines), format!("{head}\n    refused {fact}\n"));
     }
@@ -47,8 +73,8 @@ fn tables_in_bytes() {
     let mut second = write_table(1, 1, 1, 1, &[vec![0, 0, 0, 7, 2], vec![0, 0, 0, 8, 2]]);
     second[11] += 1;
     for (input, fact) in [
-        (vec![], "1 header: 0 bytes, but a table's header has 6"),
-        (vec![1], "1 header: 1 byte, but a table's header has 6"),
+        (vec![], "1 header: 0 bytes, but a table has at least 6"),
+        (vec![1], "1 header: 1 byte, but a table has at least 6"),
         (write_table(17, 1, 1, 1, &[]), "1 header: 17 peers, but a table has 1 to 16"),
         (many, "1 header: 65 items, but a table has at most 64"),
         (
@@ -71,7 +97,7 @@ fn tables_in_bytes() {
         ),
         (
             one(&[0, 0, 0, 7, 2, 1]),
-            "3 item: item 0 is an audit with 1 byte after its kind, not none",
+            "3 item: item 0 is an audit with 1 byte after its kind, but in the first season it has none",
         ),
         (
             one(&[0, 0, 0, 7, 3, 1, 2]),
@@ -84,4 +110,50 @@ fn tables_in_bytes() {
     let long = explain_bytes(&vec![1; 65_537], Which::Last);
     let fact = "15 input: 65537 bytes, but a rehearsal has at most 65536";
     assert_eq!(long, format!("input\n    refused {fact}\n"));
+}
+
+/// A table in bytes that starts with 0: with 0 and 2 it is of season 2.
+#[test]
+fn tables_of_season_2_in_bytes() {
+    let table = [
+        0, 2, 1, 1, 0, 1, 1, 1, // season and header: one peer, one period, one item
+        0, 12, 0, 6, // pair
+        0, 0, 0, 7, 2, 5, // audit of ballot 7 from place 5
+    ];
+    let altered = |at: usize, byte: u8| {
+        let mut bytes = table.to_vec();
+        bytes[at] = byte;
+        bytes
+    };
+    // In the first season its fifth byte would be the number of periods.
+    let periods = "0 periods, but a table has 1 to 8";
+    let least = "but a table of season 2 has at least 8";
+    let start =
+        "0 peers, but a table has 1 to 16, and one of season 2 starts with 0 and 2, not with 0";
+    for (input, fact) in [
+        (table[..1].to_vec(), "1 header: 1 byte, but a table has at least 6".to_string()),
+        (table[..2].to_vec(), format!("1 header: 2 bytes, {least}")),
+        (table[..7].to_vec(), format!("1 header: 7 bytes, {least}")),
+        (altered(1, 3), format!("1 header: {start} and 3; {periods}")),
+        (altered(1, 1), format!("1 header: {start} and 1; {periods}")),
+        (altered(2, 0), "1 header: 0 peers, but a table has 1 to 16".to_string()),
+        (altered(3, 2), "1 header: threshold 2, but with 1 peer it must be 1".to_string()),
+        (altered(9, 10), "2 pairs: item 0 has offset 10, but the pairs end at byte 12".to_string()),
+        (
+            table[..17].to_vec(),
+            "2 pairs: item 0 ends at byte 18, but the input at byte 17".to_string(),
+        ),
+        (
+            altered(11, 5),
+            "3 item: item 0 is an audit with 0 bytes after its kind, \
+                but in season 2 it has 1, its place"
+                .to_string(),
+        ),
+    ] {
+        let told = explain_bytes(&input, Which::All);
+        assert_eq!(told, format!("table\n    refused {fact}\n"), "{input:?}");
+    }
+    let told = "table of season 2: 1 peer, honest 1; threshold 1; 1 period, 1 item\n\
+        0 steps: 0 done, 0 refused\n";
+    assert_eq!(explain_bytes(&table, Which::All), told);
 }

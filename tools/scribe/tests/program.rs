@@ -69,7 +69,7 @@ fn the_program() {
     let failures: [(&[&str], &[u8], &str); 11] = [
         (&["bytes"], b"peers", "scribe: line 1: expected a number of peers"),
         (&["bytes"], b"peers 1\n\xFF", "scribe: line 2: expected text in UTF-8"),
-        (&["text"], b"", "scribe: no text for this table: header of 0 bytes, not 6"),
+        (&["text"], b"", "scribe: no text for this table: 0 bytes, but a table has at least 6"),
         (&[], b"", "scribe: usage: scribe bytes"),
         (&["both"], b"", "scribe: usage: scribe bytes"),
         (&["explain", "--all"], b"", "scribe: usage: scribe bytes"),

@@ -34,7 +34,28 @@ raw 01 00
 
 #[test]
 fn every_name_comes_back_as_written() {
-    assert_eq!(text(&bytes(EVERY_NAME).unwrap()).unwrap(), EVERY_NAME);
+    let second = format!("season 2\n{}", EVERY_NAME.replace("audit 7", "audit 7 place 255"));
+    for lines in [EVERY_NAME, &second] {
+        assert_eq!(text(&bytes(lines).unwrap()).unwrap(), lines);
+    }
+}
+
+/// 0 and 2, then the header; the first offset is 8 + 4 · 3 = 20, the next 26 and 32.
+#[test]
+fn season_2() {
+    let table = "season 2\npeers 4 threshold 3 honest 1 2 3 periods 1\n\
+        audit 7 place 5\naudit 7 place 0\ncancel 7\npost 1\n";
+    let mut expected = vec![
+        0, 2, // season
+        4, 3, 0, 7, 1, 3, // header
+        0, 20, 0, 6, 0, 26, 0, 6, 0, 32, 0, 5, // pairs
+        0, 0, 0, 7, 2, 5, // audits and their places
+        0, 0, 0, 7, 2, 0, //
+        0, 0, 0, 7, 3, // cancellation
+    ];
+    expected.extend([1, 0, 0, 0, 1, 0, 0, 0, 0, 0, 0, 0, 0]);
+    assert_eq!(bytes(table).unwrap(), expected);
+    assert_eq!(text(&expected).unwrap(), table);
 }
 
 #[test]
@@ -70,7 +91,11 @@ fn bad_values_come_back() {
         "peers 3 threshold 2 honest 1 2 3 periods 1\n",
         "peers 0 threshold 255 honest 16 periods 0\n",
         "peers 1 threshold 1 honest periods 9\nvote 7\nitem\nitem 00 01\naudit 7\naudit 7\n",
-        "peers 1 threshold 1 honest 1 periods 1\nitem 00 00 00 07 09\nitem 00 00 00 07 02 00\n",
+        "peers 1 threshold 1 honest 1 periods 1\nitem 00 00 00 07 09\nitem 00 00 00 07 02 00 00\n",
+        "peers 1 threshold 1 honest 1 periods 1\naudit 7 place 5\nitem 00 00 00 07 03 00\n",
+        "season 2\npeers 4 threshold 3 honest 1 periods 1\naudit 7\naudit 7 place 5\n",
+        "season 2\npeers 0 threshold 2 honest 16 periods 0\nvote 7\nitem 00 00 00 07 02 00 00\n",
+        "peers 0 threshold 3 honest 1 periods 1\n",
         "peers 1 threshold 1 honest 1 periods 1\npost 255\nhand 0 9\nraw FF\n",
     ] {
         assert_eq!(text(&bytes(lines).unwrap()).unwrap(), lines);
@@ -79,15 +104,17 @@ fn bad_values_come_back() {
     assert_eq!(text(&bytes(&long).unwrap()).unwrap(), long);
 }
 
-/// A table with random items, then random steps and a random tail.
+/// A table of either season with random items, then random steps and a random
+/// tail.
 fn random_input(random: &mut Random) -> Vec<u8> {
-    let mut input: Vec<u8> = random.bytes(5);
+    let mut input: Vec<u8> = [vec![], vec![0, 2]][random.below(2)].clone();
+    input.extend(random.bytes(5));
     let m = random.below(6);
     input.push(m as u8);
-    let mut offset = 6 + 4 * m;
+    let mut offset = input.len() + 4 * m;
     let mut items = Vec::new();
     for _ in 0..m {
-        let length = random.below(40);
+        let length = [random.below(40), 5, 6][random.below(3)];
         input.extend([(offset >> 8) as u8, offset as u8, 0, length as u8]);
         items.extend((0..length).map(|at| match at {
             4 => random.below(5) as u8,
@@ -110,15 +137,17 @@ fn random_input(random: &mut Random) -> Vec<u8> {
 #[test]
 fn random_inputs_come_back() {
     let mut random = Random::new(1, 0);
-    let mut named = 0;
+    let (mut named, mut placed) = (0, [0, 0]);
     for _ in 0..5000 {
         let input = random_input(&mut random);
         let lines = text(&input).unwrap();
+        placed[lines.starts_with("season 2\n") as usize] += lines.matches(" place ").count();
         named += lines.lines().filter(|line| !line.starts_with("raw")).count();
         assert_eq!(bytes(&lines).unwrap(), input);
         assert_eq!(text(&bytes(&lines).unwrap()).unwrap(), lines);
     }
     assert!(named > 20_000, "{named}");
+    assert!(placed.iter().all(|count| *count > 100), "{placed:?}");
 }
 
 /// Each op with each field filled, and with each single byte beside them.

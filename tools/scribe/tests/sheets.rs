@@ -32,6 +32,26 @@ fn every_kind_of_item() {
     assert_eq!(sheet(&largest).unwrap(), "period 7\nvote 4294967295 FF\n");
 }
 
+/// Audits of both lengths on one sheet: a place is any byte, and two audits of
+/// one ballot are twins only if their places are the same.
+#[test]
+fn audits_of_either_length() {
+    let mut bytes = vec![
+        2, 4, // period, count
+        0, 18, 0, 6, 0, 24, 0, 5, 0, 29, 0, 6, 0, 35, 0, 6, // pairs
+        0, 0, 0, 7, 2, 5, // from place 5
+        0, 0, 0, 7, 2, // from none
+        0, 0, 0, 7, 2, 0, // from place 0
+        0, 0, 0, 8, 2, 255, // from place 255
+    ];
+    let lines = "period 2\naudit 7 place 5\naudit 7\naudit 7 place 0\naudit 8 place 255\n";
+    assert_eq!(sheet(&bytes).unwrap(), lines);
+    assert!(agree(&bytes));
+    bytes[34] = 5;
+    assert_eq!(sheet(&bytes).unwrap_err(), "no sheet: items 0 and 2 are the same");
+    assert!(!agree(&bytes));
+}
+
 #[test]
 fn no_items() {
     for period in 0..8 {
@@ -84,7 +104,10 @@ fn what_is_no_sheet() {
         (altered(&[(30, 4)]), &format!("item 2 has kind 4, {kinds}")),
         (altered(&[(25, 0)]), &format!("item 1 has kind 0, {kinds}")),
         (altered(&[(25, 1)]), "item 1 is a vote with 0 bytes of preferences, not 1 to 32"),
-        (altered(&[(18, 2)]), "item 0 is an audit with 2 bytes after its kind, not none"),
+        (
+            altered(&[(18, 2)]),
+            "item 0 is an audit with 2 bytes after its kind, but it has none, or 1, its place",
+        ),
         (altered(&[(18, 3)]), "item 0 is a cancellation with 2 bytes after its kind, not none"),
         (
             write_sheet(0, &[vec![0, 0, 7]]),
@@ -136,7 +159,8 @@ fn items_of_random_tables() {
         let texts: Vec<Vec<u8>> = items.iter().map(|item| item.text()).collect();
         let mut bytes = write_sheet(random.below(8) as u8, &texts);
         let (lines, table) = (sheet(&bytes).unwrap(), text(&table).unwrap());
-        assert!(lines.lines().skip(1).eq(table.lines().skip(1)), "seed {seed}, number {number}");
+        let items = table.lines().skip_while(|line| !line.starts_with("peers ")).skip(1);
+        assert!(lines.lines().skip(1).eq(items), "seed {seed}, number {number}");
         for _ in 0..random.between(1, 2) {
             let at = random.below(bytes.len());
             bytes[at] = [random.bits() as u8, random.below(4) as u8][random.below(2)];

@@ -1,5 +1,5 @@
-//! Names that the table does not have are written, and warned of with their
-//! lines.
+//! Names that the table does not have and audits that are not of its season are
+//! written, and warned of with their lines.
 
 use scribe::read;
 
@@ -77,5 +77,44 @@ fn small_tables() {
 fn honest_peers_above_n() {
     let text = "peers 3 threshold 3 honest 1 4 16 periods 1\n";
     let expected = ["line 1: honest 4, 16: the table has peers 1 to 3"];
+    assert_eq!(read(text).unwrap().warnings, expected);
+}
+
+/// An audit that the engine will refuse, in either season; `item` is not looked
+/// at, nor is any other item.
+#[test]
+fn audits_of_another_season() {
+    let lines = "peers 4 threshold 3 honest 1 2 3 periods 1\naudit 7\naudit 7 place 5\n\
+        item 00 00 00 07 02 05 05\nvote 7\npost 9\n";
+    let first = read(lines).unwrap();
+    assert_eq!(first.bytes.len(), 6 + 16 + 5 + 6 + 7 + 5 + 13);
+    let step = "item 9: the table has items 0 to 3";
+    let expected = [
+        "line 3: item 1 is an audit with 1 byte after its kind, but in the first season it has none"
+            .to_string(),
+        format!("line 6: {step}"),
+    ];
+    assert_eq!(first.warnings, expected);
+    let second = read(&format!("season 2\n{lines}")).unwrap();
+    assert_eq!(second.bytes.len(), first.bytes.len() + 2);
+    let expected = [
+        "line 3: item 0 is an audit with 0 bytes after its kind, but in season 2 it has 1, its place"
+            .to_string(),
+        format!("line 7: {step}"),
+    ];
+    assert_eq!(second.warnings, expected);
+}
+
+/// The header is read behind the season.
+#[test]
+fn names_in_season_2() {
+    let text =
+        "season 2\npeers 3 threshold 3 honest 1 4 periods 2\naudit 7 place 5\nhand 4 1\nhash 3 2\n";
+    let expected = [
+        "line 2: honest 4: the table has peers 1 to 3",
+        "line 4: peer 4: the table has peers 1 to 3",
+        "line 4: item 1: the table has item 0 alone",
+        "line 5: period 2: the table has periods 0 to 1",
+    ];
     assert_eq!(read(text).unwrap().warnings, expected);
 }

@@ -3,7 +3,7 @@
 use super::items::{no_item, twin};
 use super::phrases::{comma_list, count};
 use crate::pairs::Pairs;
-use crate::table::HEADER_LENGTH;
+use crate::season::Season;
 use reference::report::INPUT_SIZE;
 use reference::table::LEAST_THRESHOLD;
 use reference::Refusal;
@@ -49,9 +49,10 @@ fn too_long(input: &[u8]) -> Option<Fault> {
 
 /// 1: cut short, or fields out of range, all of them.
 fn header(input: &[u8]) -> Option<Fault> {
-    let &[n, t, high, low, periods, m, ..] = input else {
-        let length = count(input.len(), "byte");
-        return fault(Place::Header, format!("{length}, but a table's header has {HEADER_LENGTH}"));
+    let season = Season::of(input);
+    let [n, t, high, low, periods, m] = match season.header(input) {
+        Ok(header) => *header,
+        Err(fact) => return fault(Place::Header, fact),
     };
     let [n, t, periods, m] = [n, t, periods, m].map(usize::from);
     let mut facts = Vec::new();
@@ -59,7 +60,7 @@ fn header(input: &[u8]) -> Option<Fault> {
         facts.extend(threshold(n, t));
         facts.extend(honest(n, u16::from_be_bytes([high, low])));
     } else {
-        facts.push(format!("{n} peers, but a table has 1 to 16"));
+        facts.push(peers(season, n, t));
     }
     if !(1..=8).contains(&periods) {
         facts.push(format!("{periods} periods, but a table has 1 to 8"));
@@ -68,6 +69,17 @@ fn header(input: &[u8]) -> Option<Fault> {
         facts.push(format!("{m} items, but a table has at most 64"));
     }
     (!facts.is_empty()).then(|| Fault { place: Place::Header, fact: facts.join("; ") })
+}
+
+/// A number of peers out of range. A 0 at the start may be meant for a season.
+fn peers(season: Season, n: usize, second: usize) -> String {
+    let told = format!("{n} peers, but a table has 1 to 16");
+    match (season, n) {
+        (Season::First, 0) => {
+            format!("{told}, and one of season 2 starts with 0 and 2, not with 0 and {second}")
+        }
+        _ => told,
+    }
 }
 
 /// The threshold, if it does not fit so many peers.
@@ -98,7 +110,7 @@ fn texts(input: &[u8]) -> Option<Vec<&[u8]>> {
 
 /// 3: length or kind wrong.
 fn item(input: &[u8]) -> Option<Fault> {
-    let fact_of = |(k, text)| Some((k, no_item(k, text)?));
+    let fact_of = |(k, text)| Some((k, no_item(k, text, &[Season::of(input)])?));
     let (k, fact) = texts(input)?.into_iter().enumerate().find_map(fact_of)?;
     fault(Place::Item(k), fact)
 }

@@ -1,19 +1,24 @@
 //! What is wrong with the texts of items.
 
 use super::phrases::count;
+use crate::season::Season;
 
-/// Why the text of item k is no item: its length or its kind.
-pub fn no_item(k: usize, text: &[u8]) -> Option<String> {
+/// Why the text of item k is no item of these seasons: its length or its kind.
+pub fn no_item(k: usize, text: &[u8], seasons: &[Season]) -> Option<String> {
     let start = format!("item {k}");
     let more = || count(text.len() - 5, "byte");
+    let is_audit = |length| seasons.iter().any(|season| season.audit_length() == length);
     let told = match (text.get(4), text.len()) {
         (None, length) => {
             let least = "but an item has at least 5: ballot number and kind";
             format!("{start} has {}, {least}", count(length, "byte"))
         }
-        (Some(1), 6..=37) | (Some(2 | 3), 5) => return None,
+        (Some(1), 6..=37) | (Some(3), 5) => return None,
+        (Some(2), length) if is_audit(length) => return None,
         (Some(1), _) => format!("{start} is a vote with {} of preferences, not 1 to 32", more()),
-        (Some(2), _) => format!("{start} is an audit with {} after its kind, not none", more()),
+        (Some(2), _) => {
+            format!("{start} is an audit with {} after its kind, {}", more(), audits(seasons))
+        }
         (Some(3), _) => {
             format!("{start} is a cancellation with {} after its kind, not none", more())
         }
@@ -22,6 +27,15 @@ pub fn no_item(k: usize, text: &[u8]) -> Option<String> {
         }
     };
     Some(told)
+}
+
+/// What the audits of these seasons have after their kind.
+fn audits(seasons: &[Season]) -> &'static str {
+    match seasons {
+        [Season::First] => "but in the first season it has none",
+        [Season::Second] => "but in season 2 it has 1, its place",
+        _ => "but it has none, or 1, its place",
+    }
 }
 
 /// The first item that is the same as one before it, and the fact.

@@ -1,7 +1,7 @@
 //! The words for numbers, lists, items and entries.
 
 use reference::state::{Board, Entry};
-use reference::table::{Item, Kind, Table};
+use reference::table::Table;
 use reference::Refusal;
 
 /// The word of a refusal in the documents.
@@ -63,13 +63,16 @@ pub fn entry(entry: &Entry) -> String {
     }
 }
 
-/// "item 0 (vote on ballot 7)"
+/// "item 0 (vote on ballot 7)", "item 1 (audit of ballot 7 from place 5)"
 pub fn item(table: &Table, number: usize) -> String {
-    let Item { ballot, kind } = &table.items[number];
-    let kind = match kind {
-        Kind::Vote(_) => "vote on",
-        Kind::Audit => "audit of",
-        Kind::Cancellation => "cancellation of",
+    let item = &table.items[number];
+    let ballot = item.ballot;
+    // From the kind on.
+    let told = match item.text()[4..] {
+        [1, ..] => format!("vote on ballot {ballot}"),
+        [2, place] => format!("audit of ballot {ballot} from place {place}"),
+        [2, ..] => format!("audit of ballot {ballot}"),
+        _ => format!("cancellation of ballot {ballot}"),
     };
-    format!("item {number} ({kind} ballot {ballot})")
+    format!("item {number} ({told})")
 }
