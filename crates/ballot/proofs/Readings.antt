@@ -20,8 +20,12 @@ use Rattle.ballot.specs.declared.item.Audits.the-variants.{Bare, Placed,
 use Rattle.ballot.specs.declared.item.Item.{Item}
 use Rattle.ballot.specs.declared.item.Reading.{Reading}
 use Rattle.ballot.specs.declared.item.Reading.the-variants.{Good, Wrong}
-use Rattle.ballot.specs.Item.{kindNumber, ballotOf, kindByte, bodyAt, placeOf, goodIf, readAudit, readKind, readItem, readingNumber}
+use Rattle.ballot.specs.Item.{kindNumber, ballotOf, kindByte, bodyAt, placeOf, goodIf, placedAudit, readAudit, readKind, readItem, readingNumber}
 use Rattle.ballot.specs.Item.{isItem, itemAt, allItems, bodySize, bodyOk, takes, ReadAs}
+
+-- the number of bytes after the kind byte
+abbrev restOf : List ℕ → ℕ
+restOf text = length text - bodyAt
 
 -- by the length, as the machine goes
 
@@ -31,7 +35,7 @@ module _ (audits : Audits) (text : List ℕ) where
   text-short l = rw (lt-ltb (length text) bodyAt l)
 
   pub text-long : {r : Reading} → bodyAt ≤ length text
-      → r ≡ readKind audits (ballotOf text) (kindByte text) (length text - bodyAt) (placeOf text) → r ≡ readItem audits text
+      → r ≡ readKind audits (ballotOf text) (kindByte text) (restOf text) (placeOf text) → r ≡ readItem audits text
   unfolding readItem
   text-long l r-is = rw (le-ltb (length text) bodyAt l) r-is
 
@@ -42,10 +46,6 @@ wrong e = let zero-one : _≡_ {A = ℕ} 0 1 = cc in absurd (omega arith)
 -- a text that reads as an item is the item's text, and the item is one of those that are taken
 
 module _ (audits : Audits) (text : List ℕ) (i : Item) where
-  -- the number of bytes after the kind byte
-  abbrev rest : ℕ
-  rest = length text - bodyAt
-
   of-kind : (kind : Kind) (ok : Bool) → kindByte text ≡ kindNumber kind → takes audits kind ≡ true
       → (ok ≡ true → (length text ≡ bodyAt + bodySize kind) × (bodyOk text kind ≡ true))
       → goodIf ok (ballotOf text) kind ≡ Good i → ReadAs audits text i
@@ -56,27 +56,30 @@ module _ (audits : Audits) (text : List ℕ) (i : Item) where
   of-kind kind false k t sized e = wrong e
 
   module _ (long : bodyAt ≤ length text) where
-    bare : kindByte text ≡ 2 → takes audits Audit ≡ true → goodIf (eqb rest 0) (ballotOf text) Audit ≡ Good i → ReadAs audits text i
-    bare k t e = of-kind Audit (eqb rest 0) k t (λ o. (omega (arith, eqb-true rest 0 o), refl)) e
+    -- nothing stands after the kind byte of an audit without a place, and of a cancellation
+    ends : (kind : Kind) → kindByte text ≡ kindNumber kind → bodySize kind ≡ 0 → bodyOk text kind ≡ true → takes audits kind ≡ true
+        → goodIf (eqb (restOf text) 0) (ballotOf text) kind ≡ Good i → ReadAs audits text i
+    ends kind k none ok t e = of-kind kind (eqb (restOf text) 0) k t (λ o. (omega (arith, eqb-true (restOf text) 0 o, none), ok)) e
 
+    -- one byte does of an audit with its place
     placed : kindByte text ≡ 2 → ((place : ℕ) → takes audits (PlacedAudit place) ≡ true)
-        → goodIf (eqb rest 1) (ballotOf text) (PlacedAudit (placeOf text)) ≡ Good i → ReadAs audits text i
+        → placedAudit (ballotOf text) (restOf text) (placeOf text) ≡ Good i → ReadAs audits text i
     placed k t e =
         let place = placeOf text in
-        of-kind (PlacedAudit place) (eqb rest 1) k (t place) (λ o. (omega (arith, eqb-true rest 1 o), eqb-self place)) e
+        of-kind (PlacedAudit place) (eqb (restOf text) 1) k (t place) (λ o. (omega (arith, eqb-true (restOf text) 1 o), eqb-self place)) e
 
 audit-read : (audits : Audits) (text : List ℕ) (i : Item) → bodyAt ≤ length text → kindByte text ≡ 2
-    → readAudit audits (ballotOf text) (length text - bodyAt) (placeOf text) ≡ Good i → ReadAs audits text i
-audit-read Bare text i long k e = bare Bare text i long k refl e
+    → readAudit audits (ballotOf text) (restOf text) (placeOf text) ≡ Good i → ReadAs audits text i
+audit-read Bare text i long k e = ends Bare text i long Audit k refl refl refl e
 audit-read Placed text i long k e = placed Placed text i long k (λ place. refl) e
-audit-read Either text i long k e = go (either (eqb (length text - bodyAt) 0))
+audit-read Either text i long k e = go (either (eqb (restOf text) 0))
   where
-    go : (eqb (length text - bodyAt) 0 ≡ true) ⊎ (eqb (length text - bodyAt) 0 ≡ false) → ReadAs Either text i
-    go (inl none) = bare Either text i long k refl (rw none (rw none at e))
+    go : (eqb (restOf text) 0 ≡ true) ⊎ (eqb (restOf text) 0 ≡ false) → ReadAs Either text i
+    go (inl none) = ends Either text i long Audit k refl refl refl (rw none (rw none at e))
     go (inr some) = placed Either text i long k (λ place. refl) (rw some at e)
 
 module _ (audits : Audits) (text : List ℕ) (i : Item) where
-  kind-read : bodyAt ≤ length text → readKind audits (ballotOf text) (kindByte text) (length text - bodyAt) (placeOf text) ≡ Good i
+  kind-read : bodyAt ≤ length text → readKind audits (ballotOf text) (kindByte text) (restOf text) (placeOf text) ≡ Good i
       → ReadAs audits text i
   unfolding readKind
   kind-read long e = go (either (eqb k 1)) (either (eqb k 2)) (either (eqb k 3))
@@ -84,15 +87,13 @@ module _ (audits : Audits) (text : List ℕ) (i : Item) where
       k : ℕ
       k = kindByte text
 
-      after : ℕ
-      after = length text - bodyAt
-
       go : (eqb k 1 ≡ true) ⊎ (eqb k 1 ≡ false) → (eqb k 2 ≡ true) ⊎ (eqb k 2 ≡ false) → (eqb k 3 ≡ true) ⊎ (eqb k 3 ≡ false)
           → ReadAs audits text i
-      go (inl v) a c = of-kind audits text i (Vote after) (between 1 after 32) (eqb-true k 1 v) refl (λ o. (omega arith, o)) (rw v at e)
+      go (inl v) a c =
+          let rest = restOf text in
+          of-kind audits text i (Vote rest) (between 1 rest 32) (eqb-true k 1 v) refl (λ o. (omega arith, o)) (rw v at e)
       go (inr v) (inl a) c = audit-read audits text i long (eqb-true k 2 a) (rw (v, a) at e)
-      go (inr v) (inr a) (inl c) = of-kind audits text i Cancellation (eqb after 0) (eqb-true k 3 c) refl
-          (λ o. (omega (arith, eqb-true after 0 o), refl)) (rw (v, a, c) at e)
+      go (inr v) (inr a) (inl c) = ends audits text i long Cancellation (eqb-true k 3 c) refl refl refl (rw (v, a, c) at e)
       go (inr v) (inr a) (inr c) = wrong (rw (v, a, c) at e)
 
   pub good-read : readItem audits text ≡ Good i → ReadAs audits text i
@@ -120,7 +121,7 @@ kind-good audits text b Cancellation ok t = refl
 pub read-good : (audits : Audits) (text : List ℕ) (i : Item) → ReadAs audits text i → readItem audits text ≡ Good i
 read-good audits text i read =
     let says = read .says in
-    let rest : length text - bodyAt ≡ bodySize (i .kind) = omega (arith, says .size) in
+    let rest : restOf text ≡ bodySize (i .kind) = omega (arith, says .size) in
     let kind = kind-good audits text (i .ballot) (i .kind) (says .body) (read .taken) in
     sym (text-long audits text (omega (arith, says .size)) (rw (says .ballot, says .kind, rest) (sym kind)))
 

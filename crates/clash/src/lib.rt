@@ -1,5 +1,5 @@
 // When two items clash: by their kinds, their texts and their numbers; and the rows of clashes, made once for a table.
-// It uses ballot to read items, header for their number, and base.
+// It uses ballot to read items, header for their number and where their pairs start, and base.
 ghost use mathlib.Core.Path.{_≡_};
 ghost use Rattle.clash.specs.Clash.{isVote, isCancellation, otherPlace, placesDiffer, kindsClash};
 ghost use Rattle.clash.specs.Clash.{itemsClash, readingsClash, clash, clashIn};

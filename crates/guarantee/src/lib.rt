@@ -1,4 +1,4 @@
-// Demand 3, when a board comes, what a sheet shows and the totals of a report, about the very definitions that the
-// promises of `engine`, `rehearsal` and `hall` cite.
+// Demand 3, when a board comes, what a sheet shows, the totals of a report and what a step does on tables of the first
+// season, about the very definitions that the promises of `engine`, `rehearsal` and `hall` cite.
 // Nothing runs here. It uses the laws of rules, engine, rehearsal and hall, liveness for the close of a period, the
 // worked runs of edges, and reading for the lines of a report; closes computes with it.

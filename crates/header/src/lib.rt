@@ -1,4 +1,4 @@
-// The ballot table's header: its fields, the struct of them that is read once, whether each is in range,
+// The ballot table's header: its season, its fields, the struct of them that is read once, whether each is in range,
 // and which sets of peers reach its threshold.
 // It uses the crate base and no other.
 ghost use mathlib.Core.Path.{_≡_};
