@@ -123,6 +123,9 @@ pub fn judge_share(s: &[u8], h: Head, j: u8, x: u8) -> u8
     if guard::periods::none_open(s, h, j) {
         return 9;
     }
+    if guard::given::has_given(s, j, x) {
+        return 17;
+    }
     if guard::quorum::few_signers(s, h, j, x) {
         return 12;
     }

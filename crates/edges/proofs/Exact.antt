@@ -26,6 +26,7 @@ use Rattle.rules.specs.ByRow.{byRow}
 use Rattle.rules.proofs.ByRow.{by-row}
 use Rattle.edges.specs.Exact.{AllPosted, NeedsUp, hand, sign, take, share, close, fetch, fetch-other, hash, hear, back, Counts, signers, sharers, heard-signers, backed, Enters, own-hash, own-backing, board, false-hash, false-backing, ExactEdges}
 use Rattle.edges.proofs.Stored.{stored, closes, backs}
+use Rattle.edges.proofs.Given.{gave-none, given, given-only, share-again}
 use Rattle.edges.proofs.Keys.{shares-unseen}
 use Rattle.edges.proofs.Left.{left}
 use Rattle.edges.proofs.Tests.{row, Without, never}
@@ -76,14 +77,14 @@ module _ (T : Table) (s : State) where
 
   short : (st : Step) (S : ℕ → Bool) → Counts T s st S → weigh T S < T .t → answer T s st ≡ 12
   unfolding answer rule
-  short _ _ (signers j x a b c) f = search row depth 8
+  short _ _ (signers j x a b c d) f = let none = gave-none T s j x d in search row depth 8
   short _ _ (sharers p x a) f = search row depth 8
   short _ _ (heard-signers j a b) f = search row depth 8
   short _ _ (backed e a) f = search row depth 8
 
   enough : (st : Step) (S : ℕ → Bool) → Counts T s st S → T .t ≤ weigh T S → answer T s st ≡ 12 → ⊥
   unfolding answer rule
-  enough _ _ (signers j x a b c) f e = never 12 (rule T s (Share j x) .refusals) (λ z. omega arith) (search row) e
+  enough _ _ (signers j x a b c d) f e = never 12 (rule T s (Share j x) .refusals) (λ z. omega arith) (search row) e
   enough _ _ (sharers p x a) f e = never 12 (rule T s (Receipt p x) .refusals) (λ z. omega arith) (search row) e
   enough _ _ (heard-signers j a b) f e = never 12 (rule T s (Back j) .refusals) (λ z. omega arith) (search row) e
   enough _ _ (backed n a) f e = never 12 (rule T s (Publish n) .refusals) (λ z. omega arith) (search row) e
@@ -132,6 +133,10 @@ module _ (T : Table) (s : State) where
     hear-absent = λ j e a l. let none = no-hash (s .bag) e l in search row depth 6;
     hear-kind = λ j e a k. search row depth 6;
     hear-open = λ j e a k o. search row depth 7;
+    given = given T s;
+    given-only = given-only T s;
+    share-closed = λ j x a b c. search row depth 8;
+    share-again = share-again T s;
     short = short;
     enough = enough;
     back-others = λ j heard e. rw (fun-ext e);

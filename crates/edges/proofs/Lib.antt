@@ -8,6 +8,7 @@ pub mod Seasons
 pub mod Worked
 pub mod Tests
 pub mod Hand
+pub mod Given
 pub mod Steps
 pub mod Stored
 pub mod Keys

@@ -69,6 +69,8 @@ table-cases =
       third-with-none = refl;
       case-R-taken = refl;
       case-R-honest = refl;
+      slip-taken = refl;
+      slip-honest = refl;
     }
 
 pub season-cases : SeasonCases

@@ -41,6 +41,8 @@ worked-runs = record {
   two-liars = record { answered = refl; signed = refl; receipted = refl; published = refl };
   two-liars-ideal = record { receipted = refl; published = refl; allowed = refl };
   two-liars-unsafe = λ S. true-false (sym (S .now .allowed));
+  slip-two-liars = record { answered = refl; signed = refl; receipted = refl; published = refl };
+  slip-two-liars-twice = λ once. absurd (omega (arith, once 0 1 0 refl refl));
   odd-bytes = record { answered = refl; signed = refl; receipted = refl; published = refl };
 }
 

@@ -15,7 +15,7 @@ use Rattle.rules.specs.State.{State, with-signed, with-shared, with-db, with-he
 use Rattle.rules.specs.Rules.{answer, next, boardBy, backers}
 use Rattle.rules.specs.Repeat.{There}
 use Rattle.rules.specs.Valid.{Peer, Cell, BoardIn}
-use Rattle.edges.specs.Steps.{Able}
+use Rattle.edges.specs.Steps.{Able, GaveEarlier}
 
 -- The peers that a step needs up: the one that acts in steps 2 to 5 and 7 to 11, and the other of step 8. Its other
 -- names are in range.
@@ -45,7 +45,7 @@ backersAt s e = backers (s .bag) (periodOf (entryAt (s .bag) e)) (boardOf (entry
 
 -- The peers that a step counts towards t, once it has passed the tests before that.
 pub data Counts (T : Table) (s : State) : Step → (ℕ → Bool) → Type 0 where
-  signers : (j x : ℕ) → Able T s j → x < T .items → s .current j < T .periods
+  signers : (j x : ℕ) → Able T s j → x < T .items → s .current j < T .periods → (GaveEarlier s j x → ⊥)
       → Counts T s (Share j x) (s .db j (s .current j) x)
   sharers : (p x : ℕ) → Cell T p x → Counts T s (Receipt p x) (λ k. s .shared k p x)
   heard-signers : (j : ℕ) → Able T s j → s .toBack j < s .current j → Counts T s (Back j) (heardOwn T s j)
@@ -67,6 +67,12 @@ pub data Enters (T : Table) (s : State) : Step → Entry → Type 0 where
       → Enters T s (FalseHash j p B) (Hash j p B)
   false-backing : (j p B : ℕ) → Peer T j → BoardIn T p B → T .honest j ≡ false → AllPosted T s B
       → Enters T s (FalseBacking j p B) (Backing j p B)
+
+-- The receipt shares that a step looks at: a receipt at those on its item in its period, a share at the peer's own on
+-- the item in earlier periods.
+pub data Sees (s : State) : Step → ℕ → ℕ → ℕ → Type 0 where
+  sharer : (k p x : ℕ) → Sees s (Receipt p x) k p x
+  own : (j q x : ℕ) → q < s .current j → Sees s (Share j x) j q x
 
 -- what is held but for the receipt shares
 abbrev pub sharesAside : State → State
@@ -99,6 +105,15 @@ pub record ExactEdges (T : Table) (s : State) : Type 0 where
   pub hear-kind : (j e : ℕ) → Able T s j → isHash (entryAt (s .bag) e) ≡ false → answer T s (Hear j e) ≡ 10
   pub hear-open : (j e : ℕ) → Able T s j → isHash (entryAt (s .bag) e) ≡ true
       → s .current j ≤ periodOf (entryAt (s .bag) e) → answer T s (Hear j e) ≡ 9
+  -- 17: to a share alone, and exactly where the peer gave one on the item in an earlier period, whoever signed it: so
+  -- before 12; but after 9
+  pub given : (j x : ℕ) → Able T s j → x < T .items → s .current j < T .periods → GaveEarlier s j x
+      → answer T s (Share j x) ≡ 17
+  pub given-only : (st : Step) → answer T s st ≡ 17 → (j : ℕ) × ((x : ℕ) × (st ≡ Share j x) × GaveEarlier s j x)
+  pub share-closed : (j x : ℕ) → Able T s j → x < T .items → T .periods ≤ s .current j → answer T s (Share j x) ≡ 9
+  -- a share given again in its own period: 0, and nothing changes
+  pub share-again : (j x : ℕ) → answer T s (Share j x) ≡ 0
+      → let u = next T s (Share j x) in (answer T u (Share j x) ≡ 0) × (next T u (Share j x) ≡ u)
   -- 12: exactly where those that the step counts are fewer than t
   pub short : (st : Step) (S : ℕ → Bool) → Counts T s st S → weigh T S < T .t → answer T s st ≡ 12
   pub enough : (st : Step) (S : ℕ → Bool) → Counts T s st S → T .t ≤ weigh T S → answer T s st ≡ 12 → ⊥
@@ -112,11 +127,12 @@ pub record ExactEdges (T : Table) (s : State) : Type 0 where
   pub full-there : (st : Step) (a : Entry) → Enters T s st a → isIn a (s .bag) ≡ true → answer T s st ≡ 0
   pub full-room : (st : Step) (a : Entry) → Enters T s st a → length (s .bag) < 256 → answer T s st ≡ 0
   pub full-only : (st : Step) → answer T s st ≡ 13 → 256 ≤ length (s .bag)
-  -- A receipt share never counts as a signature: a take of what was not signed answers 10, and no step but receipt
-  -- looks at shares.
+  -- A receipt share never counts as a signature: a take of what was not signed answers 10, and no step looks at shares
+  -- but receipt and share, and they only at those of `Sees`. So an item may be held and signed again.
   pub take-unsigned : (j k p x : ℕ) → Able T s j → Peer T k → Cell T p x → p ≤ s .current j
       → s .signed k p x ≡ false → answer T s (Take j k p x) ≡ 10
-  pub shares-unseen : (st : Step) (shared : ℕ → ℕ → ℕ → Bool) → ((p x : ℕ) → st ≡ Receipt p x → ⊥)
+  pub shares-unseen : (st : Step) (shared : ℕ → ℕ → ℕ → Bool)
+      → ((k p x : ℕ) → Sees s st k p x → shared k p x ≡ s .shared k p x)
       → let u = with-shared s shared in
       (answer T u st ≡ answer T s st) × (sharesAside (next T u st) ≡ sharesAside (next T s st))
   -- Nor the reverse: receipt does not look at signatures, and no step but share and false share makes a share.

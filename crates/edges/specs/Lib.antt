@@ -1,7 +1,8 @@
 pub mod Tables
-pub mod Marked
 pub mod Every
 pub mod Cases
+pub mod TwoDays
+pub mod Marked
 pub mod Worked
 pub mod Threshold
 pub mod Premise

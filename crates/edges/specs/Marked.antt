@@ -7,6 +7,7 @@ use Rattle.header.specs.Header.{headOf, honestCount}
 use Rattle.ballot.specs.Table.{refusal}
 use Rattle.clash.specs.Clash.{clashMask}
 use Rattle.edges.specs.Tables.{empty, single, item, vote, audit, cancellation, clash, twoFives, three, caseR}
+use Rattle.edges.specs.TwoDays.{slipTable}
 
 -- the table's marked cases: 0 is taken, 1 header, 3 item
 pub record TableEdges : Type 0 where
@@ -60,3 +61,6 @@ pub record TableCases : Type 0 where
   -- case R
   pub case-R-taken : refusal caseR ≡ 0
   pub case-R-honest : honestCount (headOf caseR) ≡ 1
+  -- a vote and an audit of another ballot over three periods
+  pub slip-taken : refusal slipTable ≡ 0
+  pub slip-honest : honestCount (headOf slipTable) ≡ 3

@@ -16,6 +16,10 @@ pub record Able (T : Table) (s : State) (j : ℕ) : Type 0 where
   pub honest : T .honest j ≡ true
   pub up : s .down j ≡ false
 
+-- j gave a receipt share on x in a period before its open one
+abbrev pub GaveEarlier : State → ℕ → ℕ → Type 0
+GaveEarlier s j x = (q : ℕ) × (q < s .current j) × (s .shared j q x ≡ true)
+
 -- the state after steps
 abbrev pub after : Table → State → List Step → State
 after T s [] = s
@@ -26,8 +30,9 @@ pub record StepEdges : Type 0 where
   pub take-ahead : (T : Table) (s : State) (j k x : ℕ) → Able T s j → Peer T k → x < T .items
       → s .current j + 1 < T .periods
       → answer T s (Take j k (s .current j + 1) x) ≡ 9
-  -- ◆ share with t - 1 signers: 12
+  -- ◆ share with t - 1 signers: 12, where document 02's 17 does not come before it
   pub share-short : (T : Table) (s : State) (j x : ℕ) → Able T s j → x < T .items → s .current j < T .periods
+      → (GaveEarlier s j x → ⊥)
       → weigh T (s .db j (s .current j) x) + 1 ≡ T .t → answer T s (Share j x) ≡ 12
   -- ◆ second hand of an item in a period: 0, and nothing changes
   pub second-hand : (T : Table) (s : State) (j x : ℕ) → T .clash x x ≡ false

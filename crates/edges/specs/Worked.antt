@@ -9,7 +9,9 @@ use Rattle.rules.specs.Bag.{boardsIn}
 use Rattle.rules.specs.Ideal.{ideal}
 use Rattle.rules.specs.Run.{Engine, after, answersFrom, byRules, run}
 use Rattle.rules.specs.Demand3.{Premise, Safe}
+use Rattle.rules.specs.Once.{ReceiptedOnce}
 use Rattle.edges.specs.Cases.{Worked, calls, due, tableR, caseR, tableTwoFaced, twoFaced, tableLeft, leftPeriod, tableLiars, twoLiars, tableOdd, oddBytes}
+use Rattle.edges.specs.TwoDays.{tableSlipLiars, slipTwoLiars}
 
 -- what f lists for each number below n, in order
 abbrev pub each : {A : Type 0} → ℕ → (ℕ → List A) → List A
@@ -67,5 +69,8 @@ pub record WorkedRuns : Type 0 where
   pub two-liars : RulesEnd tableLiars twoLiars ((1, 0, 0, 3) ∷ (2, 0, 1, 3) ∷ []) ((0, 0) ∷ (0, 1) ∷ []) []
   pub two-liars-ideal : RulesIdeally tableLiars twoLiars ((0, 0) ∷ []) [] false
   pub two-liars-unsafe : Safe tableLiars (run tableLiars) (calls twoLiars) → ⊥
+  -- nor is there one receipt for an item: each honest peer gave one share, and the item has receipts in two periods
+  pub slip-two-liars : RulesEnd tableSlipLiars slipTwoLiars ((1, 0, 0, 3) ∷ (2, 1, 0, 3) ∷ []) ((0, 0) ∷ (1, 0) ∷ []) []
+  pub slip-two-liars-twice : ReceiptedOnce (run tableSlipLiars (calls slipTwoLiars) .engine .receipted) → ⊥
   -- odd bytes are answered, and make no signer, receipt or board
   pub odd-bytes : RulesEnd tableOdd oddBytes [] [] []

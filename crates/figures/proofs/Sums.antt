@@ -3,6 +3,7 @@ use Prim.Native.Nat.{ℕ, zero, suc, _+_, _-_, _*_, _≤_, _<_}
 use native.Mathlib.Nat.{le-antisymm}
 use native.Mathlib.Numerals.{add-one}
 use native.Mathlib.Omega.{arith}
+use native.Mathlib.Decide.{decLt}
 use mathlib.Core.Bool.{Bool, true, false, cond}
 use mathlib.Core.Path.{_≡_, refl, ap, ap₂, _∙_}
 use lib.Count as machine
@@ -21,6 +22,26 @@ pub sum-zero : (n : ℕ) (f : ℕ → ℕ) → ((k : ℕ) → k < n → f k ≡ 
 unfolding sum
 sum-zero zero f e = refl
 sum-zero (suc n) f e = omega (arith, sum-zero n f (λ k l. e k (omega arith)), e n (omega arith))
+
+-- each number is at most the sum, and where that is not 0 one of them is not
+module _ (f : ℕ → ℕ) where
+  pub sum-part : (n k : ℕ) → k < n → f k ≤ sum n f
+  unfolding sum
+  sum-part zero k l = absurd (omega arith)
+  sum-part (suc n) k l = go (decLt k n) (sum-part n k)
+    where
+      go : Dec (k < n) → (k < n → f k ≤ sum n f) → f k ≤ sum n f + f n
+      go (yes b) below = omega (arith, below b)
+      go (no b) below = omega (arith, ap f {x = k} {y = n} (omega arith))
+
+  pub sum-found : (n : ℕ) → 0 < sum n f → (k : ℕ) × (0 < f k)
+  unfolding sum
+  sum-found zero l = absurd (omega arith)
+  sum-found (suc n) l = go (decLt 0 (f n)) (sum-found n)
+    where
+      go : Dec (0 < f n) → (0 < sum n f → (k : ℕ) × (0 < f k)) → (k : ℕ) × (0 < f k)
+      go (yes here) before = (n, here)
+      go (no here) before = before (omega arith)
 
 -- a loop: no number yet, one more, all
 
@@ -61,7 +82,7 @@ pub how-many-most : (n : ℕ) (S : ℕ → Bool) → howMany n S ≤ n
 unfolding howMany
 how-many-most = digits-most
 
-as-digit : (b : Bool) → cond b 1 0 ≡ digit b
+pub as-digit : (b : Bool) → cond b 1 0 ≡ digit b
 as-digit true = refl
 as-digit false = refl
 

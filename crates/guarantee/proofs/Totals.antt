@@ -43,7 +43,7 @@ same-outside : (s : State) (seen : List Fed) → Made s seen → outsideOf s ≡
 same-outside s seen M = λ i. record { posts = M .posts i; receipts = M .receipts i; boards = M .boards i }
 
 -- of an engine that follows the rules, after any list of calls
-made-and-valid : {T : Table} {X : Type 0} {E : Engine X} {Ready : X → Type 0} → Follows T E Ready → (calls : List (List ℕ))
+pub made-and-valid : {T : Table} {X : Type 0} {E : Engine X} {Ready : X → Type 0} → Follows T E Ready → (calls : List (List ℕ))
     → Made (after E calls .engine) (after E calls .seen) × Valid T (after E calls .engine)
 made-and-valid {T} F calls =
     subst (λ (w : World). Made (w .engine) (w .seen) × Valid T (w .engine)) (sym (ap (λ f. f calls) (as-ruled F)))
@@ -76,10 +76,10 @@ module _ (input : List ℕ) (fit : inputRefusal input ≡ 0) where
       ap (λ (s : State). totalsIn (headOf table) (outsideOf s)) (shown input)
       ∙ totals-true table (taken input fit .table) (callsIn input) .counted
 
-  abbrev front : List ℕ
+  abbrev pub front : List ℕ
   front = headLine (peersOf table) (thresholdOf table) (honestCount (headOf table)) ++ each (stepAt input) (stepCount input)
 
-  front-adds : {b : ℕ} {rest : List ℕ} {v : List ℕ → ℕ} → eqb 112 b ≡ false → eqb 100 b ≡ false → 58 ≤ b → Adds (b ∷ rest) v front 0
+  pub front-adds : {b : ℕ} {rest : List ℕ} {v : List ℕ → ℕ} → eqb 112 b ≡ false → eqb 100 b ≡ false → 58 ≤ b → Adds (b ∷ rest) v front 0
   unfolding stepAt
   front-adds p d letter =
       head-adds p d letter _ _ _ ▹ each-none (stepAt input) (stepCount input) (λ k _. step-adds p d letter (k + 1) _)
@@ -93,7 +93,7 @@ module _ (input : List ℕ) (fit : inputRefusal input ≡ 0) where
   abbrev above : List ℕ
   above = front ++ shownLines (headOf table) held
 
-  ends : reportOf input ≡ above ++ foot (totalsOfInput input)
+  pub ends : reportOf input ≡ above ++ foot (totalsOfInput input)
   unfolding reportOf stateLines
   ends =
       sym (append-assoc front (shownLines (headOf table) held) (foot (totalsOn (headOf table) held)))

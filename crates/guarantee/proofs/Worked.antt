@@ -14,6 +14,7 @@ use Rattle.base.specs.Weight.{weight}
 use Rattle.header.specs.Header.{headerSize, fieldOf}
 use Rattle.header.specs.Quorum.{weightOf}
 use Rattle.ballot.specs.Item.{readKind, readItem}
+use Rattle.ballot.specs.Table.{itemBelow}
 use Rattle.clash.specs.Clash.{clash, clashIn}
 use Rattle.rules.specs.Table.{clashing}
 use Rattle.rules.specs.Bag.{sameEntry, isIn, enter, isFull, boardsIn}
@@ -27,6 +28,7 @@ use Rattle.edges.specs.Tables as tables
 use Rattle.edges.specs.Premise.{barelyBytes}
 use Rattle.edges.specs.Seasons.{twoPlaces}
 use Rattle.edges.specs.Cases.{Worked, caseR, twoFaced}
+use Rattle.edges.specs.TwoDays.{slipTable, slipOnTwoDays}
 use Rattle.edges.specs.Worked.{RulesEnd, RulesIdeally}
 use Rattle.edges.proofs.Table.{table-cases, season-cases}
 use Rattle.edges.proofs.Premise.{premise-edges}
@@ -41,6 +43,7 @@ bytes-meet = record {
   barely-met = λ n l m. let b = premise-edges .met-by-bytes n l m in record { taken = b .taken; honest = omega (arith, b .just-enough) };
   case-r-met = record { taken = table-cases .case-R-taken; honest = omega (arith, table-cases .case-R-honest) };
   places-met = record { taken = season-cases .two-places; honest = omega (arith, season-cases .three-honest) };
+  slip-met = record { taken = table-cases .slip-taken; honest = omega (arith, table-cases .slip-honest) };
 }
 
 -- the runs, by the rules of the byte tables
@@ -54,10 +57,14 @@ pub record Computed : Type 0 where
       ((0, 0) ∷ []) ((0, 1) ∷ [])
   pub two-places : ByRules twoPlaces twoFaced ((1, 0, 0, 3) ∷ (2, 0, 0, 3) ∷ (3, 0, 0, 3) ∷ (3, 0, 1, 2) ∷ [])
       ((0, 0) ∷ []) ((0, 1) ∷ [])
+  pub slip-on-two-days : ByRules slipTable slipOnTwoDays
+      ((1, 0, 0, 3) ∷ (1, 1, 0, 3) ∷ (1, 1, 1, 3) ∷ (2, 0, 0, 3) ∷ (2, 1, 0, 3) ∷ (2, 1, 1, 3)
+      ∷ (3, 0, 0, 3) ∷ (3, 1, 0, 3) ∷ (3, 1, 1, 3) ∷ [])
+      ((0, 0) ∷ (1, 1) ∷ []) ((0, 1) ∷ (1, 3) ∷ [])
 
 computed : Computed
-unfolding headerSize fieldOf weightOf first any every bit member pack numberAt part sameBytes readItem readKind clashIn clash add1 add2
-    add3 add4
+unfolding headerSize fieldOf weightOf first any every bit member pack numberAt part sameBytes readItem readKind itemBelow clashIn clash
+    add1 add2 add3 add4
     setAt weight clashing sameEntry isIn enter isFull boardsIn allZero formed select ops laterOps read boardFrom addRows rule answer next
     reply leave isThere hasBoard onBoard mayReceive mayReceipt mayPublish nowEnough move feed ideal deed deedOf backingNamed seenWith
     runFrom after answersFrom
@@ -71,6 +78,10 @@ computed = record {
     ideally = record { receipted = refl; published = refl; allowed = refl };
   };
   two-places = record {
+    ends = record { answered = refl; signed = refl; receipted = refl; published = refl };
+    ideally = record { receipted = refl; published = refl; allowed = refl };
+  };
+  slip-on-two-days = record {
     ends = record { answered = refl; signed = refl; receipted = refl; published = refl };
     ideally = record { receipted = refl; published = refl; allowed = refl };
   };
@@ -88,4 +99,5 @@ bytes-run = record {
   case-r = on-bytes (bytes-meet .case-r-met) (computed .case-r);
   two-faced = on-bytes (bytes-meet .barely-met 4 (omega arith) (omega arith)) (computed .two-faced);
   two-places = on-bytes (bytes-meet .places-met) (computed .two-places);
+  slip-on-two-days = on-bytes (bytes-meet .slip-met) (computed .slip-on-two-days);
 }

@@ -1,5 +1,5 @@
--- What an engine of the first season answers to a step, and what it leaves; and that tables which do not start with 0
--- are answered so still.
+-- What an engine that reads tables as the first season did answers to a step, and what it leaves; and that tables which
+-- do not start with 0 are answered so still.
 use Prim.Native.Nat.{ℕ}
 use mathlib.Core.Bool.{Bool, cond}
 use mathlib.Core.List.{List}
@@ -40,6 +40,6 @@ oldBytes table = bytesSeeing (old.refusal table) (old.headOf table) (old.clashIn
 pub record OldEngine : Type 0 where
   -- it answers every step on a table that starts with 0 with 1, header
   pub refuses : (table s step : List ℕ) → byteAt table 0 ≡ 0 → oldAnswer table s step ≡ 1
-  -- and on every other table the engine answers as it did, and leaves the bytes that it left
+  -- and on every other table the engine answers as that one, and leaves the bytes that it leaves
   pub answers : (table s step : List ℕ) → (byteAt table 0 ≡ 0 → ⊥) → stepAnswer table s step ≡ oldAnswer table s step
   pub leaves : (table s step : List ℕ) → (byteAt table 0 ≡ 0 → ⊥) → stepBytes table s step ≡ oldBytes table s step

@@ -7,6 +7,7 @@ use Rattle.edges.specs.Tables as tables
 use Rattle.edges.specs.Premise.{barelyBytes}
 use Rattle.edges.specs.Seasons.{twoPlaces}
 use Rattle.edges.specs.Cases.{Worked, caseR, twoFaced}
+use Rattle.edges.specs.TwoDays.{slipTable, slipOnTwoDays}
 use Rattle.edges.specs.Worked.{Ends, Ideally}
 use Rattle.guarantee.specs.Demand3.{HonestEnough, byBytes}
 
@@ -17,6 +18,8 @@ pub record BytesMeet : Type 0 where
   pub case-r-met : HonestEnough tables.caseR
   -- and a table of the second season, in which two items clash by their places alone
   pub places-met : HonestEnough twoPlaces
+  -- and one of three periods
+  pub slip-met : HonestEnough slipTable
 
 -- a run of the engine on bytes: its answers, what a report of it lists, and the ideal board beside it, with each move
 -- allowed
@@ -34,3 +37,8 @@ pub record BytesRun : Type 0 where
   -- the same calls on the table of the second season: of two audits from two places one is receipted and published
   pub two-places : RunsTo twoPlaces twoFaced ((1, 0, 0, 3) ∷ (2, 0, 0, 3) ∷ (3, 0, 0, 3) ∷ (3, 0, 1, 2) ∷ [])
       ((0, 0) ∷ []) ((0, 1) ∷ [])
+  -- a slip posted on two days: it is on both boards, and has one receipt
+  pub slip-on-two-days : RunsTo slipTable slipOnTwoDays
+      ((1, 0, 0, 3) ∷ (1, 1, 0, 3) ∷ (1, 1, 1, 3) ∷ (2, 0, 0, 3) ∷ (2, 1, 0, 3) ∷ (2, 1, 1, 3)
+      ∷ (3, 0, 0, 3) ∷ (3, 1, 0, 3) ∷ (3, 1, 1, 3) ∷ [])
+      ((0, 0) ∷ (1, 1) ∷ []) ((0, 1) ∷ (1, 3) ∷ [])

@@ -1,3 +1,5 @@
 pub mod Read
 pub mod Lines
 pub mod Closed
+pub mod Numbers
+pub mod Receipts

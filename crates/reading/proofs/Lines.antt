@@ -1,5 +1,5 @@
 -- What each line of a report adds to the receipt lines and to the item fields, and what the lines of a state add.
-use Prim.Native.Nat.{ℕ, zero, suc, _+_, _-_, _≤_, _<_}
+use Prim.Native.Nat.{ℕ, zero, suc, _+_, _≤_, _<_}
 use native.Mathlib.Omega.{arith}
 use mathlib.Core.Bool.{Bool, true, false, cond}
 use mathlib.Core.List.{List, [], _∷_, _++_}
@@ -19,7 +19,7 @@ use Rattle.figures.specs.declared.Totals.{Totals}
 use Rattle.figures.specs.Sums.{sum, howMany}
 use Rattle.figures.specs.Totals.{receiptCount, totalsIn}
 use Rattle.figures.specs.Entries.{publishedBy, entryItems}
-use Rattle.figures.proofs.Sums.{sum-ext, sum-zero}
+use Rattle.figures.proofs.Sums.{sum-ext, sum-zero, as-digit}
 use Rattle.figures.proofs.Counted.{nothing-published, bag-counted}
 use Rattle.text.specs.Wrote.{each}
 use Rattle.text.specs.Decimal.{field}
@@ -29,6 +29,7 @@ use Rattle.report.specs.State.{dbItem, dbPeriod, dbPeer, dbLines, receiptItem, 
 use Rattle.report.specs.State.{entryLine, bagLine, boardLines, totalsOn, shownLines, foot}
 use Rattle.reading.specs.Read.{timesIn, begins}
 use Rattle.reading.specs.Report.{receiptLinesIn, itemFieldsOf, itemFieldsIn, Agrees}
+use Rattle.reading.specs.Receipts.{receiptText}
 use Rattle.reading.proofs.Read.{Adds, adds-none, _▹_, adds-line, other-line, adds-all}
 use Rattle.reading.proofs.Read.{Within, word-within, _&_, decimal-within, field-within, times-append, field-blank, decimal-first}
 
@@ -57,9 +58,9 @@ module _ {word : List ℕ} {v : List ℕ → ℕ} where
   none-if true x = x
   none-if false x = adds-none
 
-  one-if : (t : Bool) {u : List ℕ} → Adds word v u 1 → Adds word v (cond t u []) (digit t)
-  one-if true x = x
-  one-if false x = adds-none
+  some-if : (t : Bool) {u : List ℕ} {k : ℕ} → Adds word v u k → Adds word v (cond t u []) (cond t k 0)
+  some-if true x = x
+  some-if false x = adds-none
 
   adds-as : {u : List ℕ} {j k : ℕ} → j ≡ k → Adds word v u j → Adds word v u k
   adds-as {u} e x = subst (λ (i : ℕ). Adds word v u i) e x
@@ -151,26 +152,38 @@ module _ (m B : ℕ) where
       let word = times-append 32 board (field p) in
       omega (arith, all, word, field-blank p, items-blank)
 
--- receipt lines: one for each receipt, and none among the boards
-module _ (h : Head) (c : Contents) where
-  receipt-adds : (p x : ℕ) → AddsReceipts (receiptItem c p x) (digit (c .has (Receipted p x)))
-  unfolding receiptItem receiptLine begins
-  receipt-adds p x = one-if (c .has (Receipted p x)) (adds-line (receipt-within p x) refl)
+-- what is counted over the receipt lines, for the receipt of item x in period p if it is held, and for all of them
+abbrev pub forReceipt : (List ℕ → ℕ) → Contents → ℕ → ℕ → ℕ
+forReceipt v c p x = cond (c .has (Receipted p x)) (v (receiptText p x)) 0
 
-  receipts-add : AddsReceipts (receiptLines h c) (totalsOn h c .receipts)
-  unfolding receiptLines receiptPeriod totalsIn receiptCount howMany
+abbrev pub forReceipts : (List ℕ → ℕ) → Head → Contents → ℕ
+forReceipts v h c = sum (h .periods) (λ p. sum (h .items) (forReceipt v c p))
+
+-- receipt lines: one for each receipt, and none among the boards
+module _ {v : List ℕ → ℕ} (h : Head) (c : Contents) where
+  receipt-adds : (p x : ℕ) → Adds receipt v (receiptItem c p x) (forReceipt v c p x)
+  unfolding receiptItem receiptLine begins
+  receipt-adds p x = some-if (c .has (Receipted p x)) (adds-line (receipt-within p x) refl)
+
+  receipts-add : Adds receipt v (receiptLines h c) (forReceipts v h c)
+  unfolding receiptLines receiptPeriod
   receipts-add =
       adds-each (receiptPeriod h c) _ (h .periods) (λ p _. adds-each (receiptItem c p) _ (h .items) (λ x _. receipt-adds p x))
 
-  no-receipt : (x : Entry) → AddsReceipts (entryLine h x) 0
+  no-receipt : (x : Entry) → Adds receipt v (entryLine h x) 0
   unfolding entryLine boardLine begins
   no-receipt (Hash k p B) = adds-none
   no-receipt (Backing k p B) = adds-none
   no-receipt (Board p B) = other-line (board-within (h .items) B p) refl
 
-  no-receipts : AddsReceipts (boardLines h c) 0
+  no-receipts : Adds receipt v (boardLines h c) 0
   unfolding boardLines bagLine
   no-receipts = each-none (bagLine h c) (length (c .bag)) (λ e _. no-receipt (entryAt (c .bag) e))
+
+-- counted by 1 each, they are as many as the receipts
+each-once : (h : Head) (c : Contents) → forReceipts (λ line. 1) h c ≡ totalsOn h c .receipts
+unfolding totalsIn receiptCount howMany
+each-once h c = sum-ext (h .periods) _ _ (λ p _. sum-ext (h .items) _ _ (λ x _. as-digit (c .has (Receipted p x))))
 
 -- item fields: those of each board, and none among the receipts
 module _ (h : Head) (c : Contents) where
@@ -199,24 +212,29 @@ module _ {b : ℕ} {rest : List ℕ} (t : eqb 116 b ≡ false) (e : eqb 101 b �
   unfolding foot totalsLine begins
   foot-adds f = other-line (totals-within f) (rw t) ▹ other-line end-within (rw e)
 
--- after lines that begin with neither word, those of a state have the figures of the state; and so they have with its foot
-module _ (h : Head) (c : Contents) {front : List ℕ}
-    (a : AddsReceipts front 0) (b : AddsItems front 0) where
-  receipts-above : AddsReceipts (front ++ shownLines h c) (totalsOn h c .receipts)
+-- after lines that do not begin with `receipt`, what is counted over the receipt lines of a state, and with its foot
+module _ (h : Head) (c : Contents) {front : List ℕ} {v : List ℕ → ℕ} (a : Adds receipt v front 0) where
+  receipts-above : Adds receipt v (front ++ shownLines h c) (forReceipts v h c)
   unfolding shownLines
   receipts-above = adds-as (omega arith) (a ▹ (dbs-add refl refl (omega arith) h c ▹ receipts-add h c ▹ no-receipts h c))
 
+  pub receipts-whole : (f : Totals) → Adds receipt v (front ++ shownLines h c ++ foot f) (forReceipts v h c)
+  receipts-whole f = adds-as (omega arith) (receipts-above ▹ foot-adds refl refl f)
+
+-- after lines that begin with neither word, those of a state have the figures of the state; and so they have with its foot
+module _ (h : Head) (c : Contents) {front : List ℕ}
+    (a : AddsReceipts front 0) (b : AddsItems front 0) where
   items-above : AddsItems (front ++ shownLines h c) (totalsOn h c .items)
   unfolding shownLines
   items-above = adds-as (omega arith) (b ▹ (dbs-add refl refl (omega arith) h c ▹ no-boards h c ▹ boards-add h c))
 
   pub above-agrees : Agrees (front ++ shownLines h c) (totalsOn h c)
   unfolding receiptLinesIn itemFieldsIn
-  above-agrees = record { receipt-lines = adds-all receipts-above; item-fields = adds-all items-above }
+  above-agrees = record { receipt-lines = adds-all (receipts-above h c a) ∙ each-once h c; item-fields = adds-all items-above }
 
   pub whole-agrees : (f : Totals) → Agrees (front ++ shownLines h c ++ foot f) (totalsOn h c)
   unfolding receiptLinesIn itemFieldsIn
   whole-agrees f = record {
-    receipt-lines = adds-all (receipts-above ▹ foot-adds refl refl f) ∙ omega arith;
+    receipt-lines = adds-all (receipts-whole h c a f) ∙ each-once h c;
     item-fields = adds-all (items-above ▹ foot-adds refl refl f) ∙ omega arith;
   }

@@ -1,2 +1,3 @@
 pub mod Read
 pub mod Report
+pub mod Receipts

@@ -1,2 +1,2 @@
-// A report read back from its bytes: its lines, the receipt lines among them, and the items that the board lines name.
+// A report read back from its bytes: its lines, the receipts that they show, and the items that the board lines name.
 // Nothing runs here. It uses the definitions and laws of report, text and figures.

@@ -1,16 +1,17 @@
--- The refusals of a step as document 01's table has them: number after number, each with the ops that it is for.
+-- The refusals of a step as document 01's table has them: number after number, each with the ops that it is for; and
+-- document 02's where it puts them.
 use Prim.Native.Nat.{ℕ}
 use mathlib.Core.Bool.{Bool, false, _&&_, _||_, not}
 use mathlib.Core.List.{List, [], _∷_}
 use mathlib.Core.Path.{_≡_}
 use lib.Dec.{eqb, ltb}
-use Rattle.base.specs.Refusals.{Refusals, name, role, down, period, unknown, clash, short, full, numbered, first}
+use Rattle.base.specs.Refusals.{Refusals, name, role, down, period, unknown, clash, given, short, full, numbered, first}
 use Rattle.rules.specs.declared.Entry.the-variants.{Hash, Backing}
 use Rattle.rules.specs.declared.Step.{Step}
 use Rattle.rules.specs.Table.{Table, quorum, clashing}
 use Rattle.rules.specs.Bag.{isHash, isBacking, entryAt, periodOf, boardOf, boardNamed, isFull}
 use Rattle.rules.specs.State.{State}
-use Rattle.rules.specs.Rules.{answer, boardBy, backers, noPeer, noPeriod, noItem, noBoard, noneOpen, notClosed, unposted}
+use Rattle.rules.specs.Rules.{answer, boardBy, backers, noPeer, noPeriod, noItem, noBoard, noneOpen, notClosed, givenBefore, unposted}
 use Rattle.rules.specs.Fields.{Fields, fields}
 
 abbrev pub oneOf : ℕ → List ℕ → Bool
@@ -60,6 +61,8 @@ module _ (T : Table) (s : State) (f : Fields) where
       ∷ (unknown, op (12 ∷ []) && not (isBacking a))
       -- clash: j holds, in any period, an item that clashes
       ∷ (clash, op (2 ∷ []) && clashing T (s .held j) x)
+      -- given, of document 02, after period and before short: 5 j gave one for the item in an earlier period
+      ∷ (given, op (5 ∷ []) && givenBefore (s .shared j) p x)
       -- short: 5, 6, 11, 12 fewer than t
       ∷ (short, op (5 ∷ []) && not (quorum T (s .db j p x)))
       ∷ (short, op (6 ∷ []) && not (quorum T (λ i. s .shared i (f .period) x)))
