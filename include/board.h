@@ -33,8 +33,9 @@ extern "C" {
 /* Rises when a function, a number or a layout of this file changes.
  * 2: a report has the line `totals` before its last one.
  * 3: sheets: the answer 16, a layout and four functions.
- * 4: tables of season 2, whose audits name their place. */
-#define BOARD_VERSION 4
+ * 4: tables of season 2, whose audits name their place.
+ * 5: the answer 17: a peer gives its share for an item in one period only. */
+#define BOARD_VERSION 5
 
 /* The answers, by their words. A number that is not here is a refusal too. */
 enum board_answer {
@@ -54,7 +55,8 @@ enum board_answer {
     BOARD_FULL = 13,
     BOARD_STATE = 14,
     BOARD_INPUT = 15,
-    BOARD_SHEET = 16
+    BOARD_SHEET = 16,
+    BOARD_GIVEN = 17
 };
 
 /* The steps, by their words; beside each the fields that it uses. */
@@ -185,7 +187,8 @@ uint8_t board_fresh(const uint8_t *table, size_t table_length,
                     uint8_t *state, size_t state_length);
 
 /* Takes a step: 0, or the first refusal that applies, of the table (1 to 4), of
- * the state (14), of the step's form (5), of the step (6 to 13). */
+ * the state (14), of the step's form (5), of the step (6 to 13; of a share also
+ * 17, judged before 12). */
 uint8_t board_step(const uint8_t *table, size_t table_length,
                    uint8_t *state, size_t state_length,
                    const uint8_t *step, size_t step_length);
@@ -199,7 +202,8 @@ size_t board_report_most(void);
  * The state then is the one that the steps led to, whatever its bytes were. An
  * input that is refused (15, or 1 to 4), or a state of another length than
  * BOARD_STATE_LENGTH (14, judged after these), has the report `refused N`, one
- * line, and leaves the state as it was. Any other report ends with the lines
+ * line, and leaves the state as it was. Any other report has a line for each
+ * step, with what board_step answers to it, and ends with the lines
  * `totals A B C`, the different items posted, the receipts, and the items of all
  * boards added up, and `end`. */
 size_t board_rehearse(const uint8_t *input, size_t input_length,

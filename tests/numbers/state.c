@@ -106,6 +106,16 @@ static void check_fetch(void) {
     }
 }
 
+/* In period 2 whoever gave a share for item 3 in period 1 is refused another; the others are but short of signers. */
+static void check_given(void) {
+    for (int j = 1; j <= PEERS; j++) {
+        if (j != LIAR) {
+            CHECK(STEP(.op = BOARD_OP_SHARE, .peer = j, .item = 3) == (j == 1 || j == 3 ? BOARD_SHORT : BOARD_GIVEN));
+        }
+    }
+    CHECK(as_expected());
+}
+
 /* The board of a period, sent by every honest peer, heard by every one, backed and published. */
 static void check_board(int period, uint64_t board) {
     int first = entries, backing = 0;
@@ -171,6 +181,7 @@ void check_state_numbers(void) {
     check_open();
     check_receipt();
     check_fetch();
+    check_given();
     check_board(0, 0);
     check_board(1, 1 << 3);
     check_false_entries();

@@ -6,16 +6,20 @@
 //! - `lent`: bytes that are lent, and those around them
 //! - `pair`: engines and reference on the same calls
 //! - `sheets`: the same for sheets, written and read
+//! - `given`: shares on lent states, and what is due
 //! - `closes`: closes of a period, run so: what was asked of them, and what came
 //! - `altered`: tables and sheets with other texts for their items
+//! - `wrong_shares`: engines that judge by another rule what was given
 
 pub mod altered;
 pub mod closes;
+pub mod given;
 pub mod layout;
 pub mod lent;
 pub mod pair;
 pub mod row14;
 pub mod sheets;
+pub mod wrong_shares;
 
 /// An engine over lent bytes.
 #[derive(Clone, Copy)]

@@ -71,6 +71,7 @@ fn between(ran: &Ran, hits: &mut Hits) {
     hits.add("a take of the period", take(true));
     hits.add("a take of another period", take(false));
     hits.add("a share", ran.any(|step| matches!(step, Step::Share { .. })));
+    hits.add("a share given before", ran.calls.iter().any(|call| call.answer == 17));
     hits.add("a receipt", ran.any(|step| matches!(step, Step::Receipt { .. })));
     hits.add("a close", ran.any(|step| matches!(step, Step::Close { .. })));
     hits.add("a publish", ran.any(|step| matches!(step, Step::Publish { .. })));

@@ -135,14 +135,18 @@ fn another_report_is_found() {
 
 #[test]
 fn same_reports() {
-    let (seed, mut answers, mut taken) = (run_seed(), Answers::default(), [0; 2]);
+    let (seed, mut answers) = (run_seed(), Answers::default());
+    // Of the old season and of the new.
+    let (mut taken, mut given) = ([0; 2], [0; 2]);
     for number in 0..ROUNDS * round() {
         let (kind, input) = rehearsal(seed, number);
         let rehearsed = Rehearsed::new(&input);
         assert!((kind.fits)(&rehearsed), "seed {seed}, number {number}: not {}", kind.name);
         answers.count_all(&rehearsed);
         if let Ok(outcome) = &rehearsed.outcome {
-            taken[(outcome.table.season == Season::New) as usize] += 1;
+            let season = (outcome.table.season == Season::New) as usize;
+            taken[season] += 1;
+            given[season] += outcome.answers.iter().filter(|answer| **answer == 17).count();
         }
         if let Err(wrong) = compare_all(number, seed, &rehearsed) {
             let (name, length, hex) = (kind.name, input.len(), hex(&input));
@@ -150,7 +154,8 @@ fn same_reports() {
         }
     }
     println!("{} rehearsals with {} steps", ROUNDS * round(), answers.calls());
-    println!("tables taken, of the old season and of the new {taken:?}\n{answers}");
+    println!("tables taken {taken:?}, shares given before {given:?}\n{answers}");
     assert!(taken.iter().all(|times| *times > 500), "seed {seed}");
+    assert!(given.iter().all(|times| *times > 100), "seed {seed}");
     assert_eq!(answers.wrong(), [""; 0], "seed {seed}");
 }

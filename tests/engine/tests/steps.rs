@@ -22,6 +22,8 @@ struct Seen {
     new_season: usize,
     clashes_of_places: usize,
     receipts_of_places: usize,
+    /// The shares refused since one was given, in the old season and in the new.
+    given: [usize; 2],
 }
 
 impl Seen {
@@ -40,6 +42,7 @@ fn call(pair: &mut Pair, seen: &mut Seen, step: &[u8]) {
     let answer = pair.call(step);
     seen.answers.count(step, answer);
     seen.clashes_of_places += is_clash_of_places(&pair.table, step, answer) as usize;
+    seen.given[(pair.table.season == Season::New) as usize] += (answer == 17) as usize;
 }
 
 fn run(pair: &mut Pair, random: &mut Random, seen: &mut Seen, rounds: usize) {
@@ -88,8 +91,8 @@ fn same_answers_and_bytes() {
     let Seen { answers, boards, boards_with_items, full_bags, .. } = &seen;
     println!("{} calls; boards {boards}, with items {boards_with_items}", answers.calls());
     println!("full bags {full_bags}\n{answers}");
-    let Seen { runs, new_season, clashes_of_places, receipts_of_places, .. } = seen;
-    println!("{new_season} of {runs} runs of the new season");
+    let Seen { runs, new_season, clashes_of_places, receipts_of_places, given, .. } = seen;
+    println!("{new_season} of {runs} runs of the new season; shares given before {given:?}");
     println!(
         "{clashes_of_places} clashes of two places, {receipts_of_places} receipts for one of them"
     );
@@ -97,4 +100,5 @@ fn same_answers_and_bytes() {
     assert!(*boards > 50 && *boards_with_items > 20 && *full_bags > 5);
     assert!((runs / 3..=2 * runs / 3).contains(&new_season));
     assert!(clashes_of_places > 10 && receipts_of_places > 3);
+    assert!(given.iter().all(|times| *times > 200));
 }

@@ -1,9 +1,11 @@
 //! The comparison can fail: each of the engines that document 01 wants rejected,
-//! and each that lets items be held which clash, differs from the reference
-//! somewhere in a random run.
+//! each that lets items be held which clash, and each that gives shares by another
+//! rule, differs from the reference somewhere in a random run or on a lent state.
 
 use engine::altered::{is_audit, must_be_found, table_with};
+use engine::given::{Asked, Case, COMBINATIONS};
 use engine::pair::Pair;
+use engine::wrong_shares::{LATER_COUNTED, RIGHT_SHARES, WRONG_ELSEWHERE, WRONG_SHARES};
 use engine::{Engine, PLAIN};
 use inputs::random::{run_seed, Random};
 use inputs::steps::random_steps;
@@ -111,17 +113,45 @@ fn every_wrong_clash_is_found() {
     );
 }
 
+/// In runs from the fresh state, where no share is of a later period.
+#[test]
+fn every_wrong_share_is_found() {
+    let table = |random: &mut Random| Shape { n: 4, periods: 8, m: 3 }.honest_table(random, 1);
+    let is_later = |engine: &Engine| engine.name == LATER_COUNTED.name;
+    let engines = WRONG_SHARES.into_iter().filter(|engine| !is_later(engine));
+    all_found(&engines.chain(WRONG_ELSEWHERE).collect::<Vec<Engine>>(), table);
+    assert_eq!(found(&RIGHT_SHARES, run_seed(), table), 0);
+}
+
+/// On lent states, where the true engine is right.
+#[test]
+fn every_wrong_share_is_found_on_lent_states() {
+    let seed = run_seed();
+    let asked = |number| Asked::new(&mut Random::new(seed, number), Case::in_turn(number));
+    let all: Vec<Asked> = (0..COMBINATIONS).map(asked).collect();
+    let found = |engine: &Engine| all.iter().filter(|asked| asked.compare(engine).is_err()).count();
+    for engine in WRONG_SHARES {
+        must_be_found(engine.name, found(&engine));
+    }
+    assert_eq!((found(&PLAIN), found(&RIGHT_SHARES)), (0, 0));
+}
+
 /// Each of the engines is found in some run on such tables.
 fn all_found(engines: &[Engine], table: fn(&mut Random) -> Vec<u8>) {
     let seed = run_seed();
     for engine in engines {
-        let runs = (0..RUNS).filter(|number| {
-            let mut random = Random::new(seed, *number);
-            let text = table(&mut random);
-            differs(engine, &mut random, text)
-        });
-        must_be_found(engine.name, runs.count());
+        must_be_found(engine.name, found(engine, seed, table));
     }
+}
+
+/// The number of runs on such tables in which the engine is found.
+fn found(engine: &Engine, seed: u64, table: fn(&mut Random) -> Vec<u8>) -> usize {
+    let runs = (0..RUNS).filter(|number| {
+        let mut random = Random::new(seed, *number);
+        let text = table(&mut random);
+        differs(engine, &mut random, text)
+    });
+    runs.count()
 }
 
 /// Whether the engine differs in a run, in which the true one does not.

@@ -8,7 +8,7 @@ use std::fmt;
 /// The fields that an op uses, by name; an entry is an item.
 type Fields = &'static [&'static str];
 
-/// An op with its fields and the answers that document 01's table gives it.
+/// An op with its fields and the answers that the papers give it.
 pub struct Row {
     pub op: u8,
     pub name: &'static str,
@@ -28,7 +28,7 @@ pub static ROWS: &[Row] = &[
     row(2, "hand", &["peer", "item"], &[0, 5, 6, 7, 8, 9, 10, 11]),
     row(3, "sign", &["peer", "item"], &[0, 5, 6, 7, 8, 9, 10]),
     row(4, "take", &["peer", "other", "period", "item"], &[0, 5, 6, 7, 8, 9, 10]),
-    row(5, "share", &["peer", "item"], &[0, 5, 6, 7, 8, 9, 12]),
+    row(5, "share", &["peer", "item"], &[0, 5, 6, 7, 8, 9, 12, 17]),
     row(6, "receipt", &["period", "item"], &[0, 5, 6, 12]),
     row(7, "close", &["peer"], &[0, 5, 6, 7, 8, 9]),
     row(8, "fetch", &["peer", "other", "period"], &[0, 5, 6, 7, 8, 9]),
@@ -94,7 +94,7 @@ impl Answers {
     }
 }
 
-/// A row for each op; a dot where document 01 has no such answer.
+/// A row for each op; a dot where the papers have no such answer.
 impl fmt::Display for Answers {
     fn fmt(&self, f: &mut fmt::Formatter) -> fmt::Result {
         let columns: BTreeSet<u8> = ROWS.iter().flat_map(|row| row.answers).copied().collect();

@@ -1,5 +1,6 @@
 //! Runs in bursts of steps that belong together: what peers, members and the
-//! outsider do. Each burst is then shuffled, repeated or lost.
+//! outsider do. Each burst is then shuffled, repeated or lost. `offers` has what
+//! members do.
 
 use crate::making::Making;
 use crate::period::posts;
@@ -8,8 +9,8 @@ use reference::form::{bits, write_step, Step};
 use reference::state::Peer;
 
 /// A run of which so many steps in a hundred are lost, and as many repeated.
-struct Bursts<'a, 'b> {
-    making: &'b mut Making<'a>,
+pub(crate) struct Bursts<'a, 'b> {
+    pub making: &'b mut Making<'a>,
     loss: usize,
 }
 
@@ -29,7 +30,7 @@ impl Bursts<'_, '_> {
             if self.chance(60) {
                 self.all_up();
             }
-            match self.below(16) {
+            match self.below(17) {
                 0..=3 => self.offer(),
                 4 => self.close_some(),
                 5..=6 => self.commit(),
@@ -40,6 +41,7 @@ impl Bursts<'_, '_> {
                 12 => self.replay(),
                 13 => self.receipts(),
                 14 => self.flood(),
+                15 => self.offer_again(),
                 _ => self.chatter(),
             }
         }
@@ -50,7 +52,7 @@ impl Bursts<'_, '_> {
     }
 
     /// Lost, repeated and shuffled, then called.
-    fn deliver(&mut self, steps: Vec<Step>) {
+    pub fn deliver(&mut self, steps: Vec<Step>) {
         let mut list = Vec::new();
         for step in steps {
             if !self.chance(self.loss) {
@@ -78,52 +80,8 @@ impl Bursts<'_, '_> {
         }
     }
 
-    /// A member offers an item to some peers: hand and sign, take, share,
-    /// receipt. The dishonest peers join in.
-    fn offer(&mut self) {
-        let item = self.item();
-        let period = self.open_period();
-        let reach = [60, 90, 100][self.below(3)];
-        let mut round = Vec::new();
-        for peer in self.making.honest() {
-            if self.chance(reach) {
-                round.extend([Step::Hand { peer, item }, Step::Sign { peer, item }]);
-            }
-        }
-        for peer in self.making.liars() {
-            round.push(Step::FalseSignature { peer, period, item });
-            round.push(Step::FalseShare { peer, period, item });
-        }
-        self.deliver(round);
-        let mut round = Vec::new();
-        for peer in self.making.honest() {
-            for other in 1..=self.making.table.n {
-                if self.chance(reach) {
-                    round.push(Step::Take { peer, other, period, item });
-                }
-            }
-        }
-        self.deliver(round);
-        self.shares(item, period);
-    }
-
-    /// The peers give their shares, and the member puts a receipt together.
-    fn shares(&mut self, item: usize, period: usize) {
-        self.for_each_honest(|peer| Step::Share { peer, item });
-        if self.chance(70) {
-            self.deliver(vec![Step::Receipt { period, item }]);
-        }
-    }
-
-    /// Members put together what receipts they can, some of them late.
-    fn receipts(&mut self) {
-        let (periods, m) = (self.making.table.periods, self.making.table.m());
-        let receipt = |k: usize| Step::Receipt { period: k / m, item: k % m };
-        self.deliver((0..periods * m).map(receipt).collect());
-    }
-
     /// Some peers leave their open period, or all those that are in one.
-    fn close_some(&mut self) {
+    pub fn close_some(&mut self) {
         let period = self.open_period();
         let part = [30, 100][self.below(2)];
         let mut round = Vec::new();
@@ -250,19 +208,19 @@ impl Bursts<'_, '_> {
         }
     }
 
-    fn for_each_honest(&mut self, step: impl Fn(usize) -> Step) {
+    pub fn for_each_honest(&mut self, step: impl Fn(usize) -> Step) {
         self.deliver(self.making.honest().into_iter().map(step).collect());
     }
 
-    fn below(&mut self, bound: usize) -> usize {
+    pub fn below(&mut self, bound: usize) -> usize {
         self.making.random.below(bound)
     }
 
-    fn chance(&mut self, percent: usize) -> bool {
+    pub fn chance(&mut self, percent: usize) -> bool {
         self.making.random.chance(percent)
     }
 
-    fn item(&mut self) -> usize {
+    pub fn item(&mut self) -> usize {
         self.below(self.making.table.m())
     }
 
@@ -275,7 +233,7 @@ impl Bursts<'_, '_> {
     }
 
     /// Mostly the open period of some honest peer.
-    fn open_period(&mut self) -> usize {
+    pub fn open_period(&mut self) -> usize {
         self.likely_period(|peer| peer.p, 90)
     }
 

@@ -1,6 +1,7 @@
 //! Every kind of rehearsal, and how many of each are made.
 
 use crate::counted::*;
+use crate::given::{shows_two_days, two_days};
 use crate::odd::*;
 use crate::places::{shows_places, two_places};
 use crate::random::Random;
@@ -25,8 +26,8 @@ const fn kind(times: usize, name: &'static str, make: Make, fits: fn(&Rehearsed)
     Kind { times, name, make, fits }
 }
 
-pub static KINDS: [Kind; 33] = [
-    kind(41, "a run", run, |r| r.is(|o| o.answers.len() >= 20)),
+pub static KINDS: [Kind; 34] = [
+    kind(34, "a run", run, |r| r.is(|o| o.answers.len() >= 20)),
     kind(16, "shuffled steps", shuffled, |r| r.is(|o| o.answers.len() >= 10)),
     kind(16, "repeated steps", repeated, |r| r.is(|o| o.answers.len() >= 10)),
     kind(16, "lost steps", lost, |r| r.outcome.is_ok()),
@@ -63,6 +64,7 @@ pub static KINDS: [Kind; 33] = [
     kind(6, "publishes that come again", publishes_again, |r| comes_again(r, 12)),
     kind(7, "two boards of one period", two_boards, |r| r.is(has_two_boards)),
     kind(7, "audits from two places", two_places, |r| r.is(|o| shows_places(r, o))),
+    kind(7, "a slip posted on two days", two_days, |r| r.is(|o| shows_two_days(r, o))),
     kind(4, "an audit of the other season", other_audit, |r| {
         r.is_refused(3) && has_items_of_any_season(r)
     }),

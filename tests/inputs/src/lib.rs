@@ -7,11 +7,12 @@
 //! - `seasons`: sorts of tables by what makes a season, right or wrong
 //! - `damaged`: damaged tables
 //! - `places`: audits of one ballot from two places
+//! - `given`: slips posted on two days
 //! - `steps`: steps of which many are taken
 //! - `making`: a rehearsal in the making, with the reference's state alongside
 //! - `period`: periods that go well, and lies that fill the bag
-//! - `protocol`: long rehearsals in which nearly everything is taken
-//! - `bursts`: runs in bursts, shuffled, repeated and lost
+//! - `protocol`: long rehearsals in which most steps are taken
+//! - `bursts`, with `offers`: runs in bursts, shuffled, repeated and lost
 //! - `rehearsed`: a rehearsal with what the reference makes of it
 //! - `runs`, `wide`, `counted`, `odd`: rehearsals in the protocol's shape, those
 //!   with the most to report, those whose totals are easily counted wrong, and
@@ -30,9 +31,11 @@ mod counted;
 pub mod damaged;
 mod earlier;
 mod exchange;
+pub mod given;
 pub mod kinds;
 pub mod making;
 mod odd;
+mod offers;
 pub mod period;
 pub mod places;
 pub mod protocol;

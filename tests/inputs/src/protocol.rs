@@ -1,6 +1,7 @@
-//! Long rehearsals in which nearly everything is taken: items are offered,
-//! signed and receipted side by side, periods closed and boards published, with
-//! some steps given too early. The bench measures these.
+//! Long rehearsals in which most steps are taken: items are offered, signed and
+//! receipted side by side, periods closed and boards published, with some steps
+//! given too early. With many periods items come again: they are signed again, and
+//! their shares are refused. The bench measures these.
 
 use crate::making::Making;
 use crate::random::Random;

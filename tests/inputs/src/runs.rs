@@ -57,16 +57,18 @@ pub fn short_tail(random: &mut Random, number: usize) -> Vec<u8> {
     input
 }
 
-/// One or two periods with nothing lost.
+/// One or two periods with nothing lost, each with items of its own.
 pub fn good(random: &mut Random, number: usize) -> Making<'_> {
     let n = [1, 2, 3, 4, 5, 6, 16][number % 7];
     let shape = Shape { n, periods: random.between(1, 3), m: random.between(1, 8) };
     let (periods, liars) = (shape.periods.min(random.between(1, 2)), random.below(3));
     let text = shape.honest_table(random, liars);
     let mut making = Making::on(random, text);
-    let items = making.fair_items((40 / n / n).clamp(1, 4));
+    let most = (40 / n / n).clamp(1, 4);
+    let items = making.fair_items(periods * most);
+    let mut parts = items.chunks(most);
     for period in 0..periods {
-        making.good_period(period, &items);
+        making.good_period(period, parts.next().unwrap_or(&[]));
     }
     making
 }

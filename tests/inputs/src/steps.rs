@@ -22,8 +22,12 @@ pub fn all_items(m: usize) -> u64 {
     u64::MAX.checked_shr(64 - m as u32).unwrap_or(0)
 }
 
-/// The next steps of a run: one step, or the same one for all peers.
+/// The next steps of a run: one step, the same one for all peers, or now and then
+/// the whole way of a slip.
 pub fn random_steps(random: &mut Random, table: &Table, state: &State) -> Vec<Vec<u8>> {
+    if random.once_in(60) {
+        return slip(random, table, state);
+    }
     let choice = random.below(100);
     let step = match choice {
         0..=12 => uniform(random, table),
@@ -36,6 +40,30 @@ pub fn random_steps(random: &mut Random, table: &Table, state: &State) -> Vec<Ve
     } else {
         vec![step]
     }
+}
+
+/// The way of a slip to its receipt, mostly of one that some peer gave a share for:
+/// each honest peer holds it, signs it and takes signatures in its open period.
+fn slip(random: &mut Random, table: &Table, state: &State) -> Vec<Vec<u8>> {
+    let item = match random.pick(state.shares.iter()) {
+        Some((_, _, item)) if !random.once_in(4) => *item,
+        _ => random.below(table.m()),
+    };
+    let honest = random.drawn(table.honest.iter().copied());
+    let period = honest.first().map_or(0, |peer| state.peer(*peer).p);
+    let mut steps = vec![Step::Post { item }];
+    let lie = |peer| Step::FalseSignature { peer, period, item };
+    steps.extend(liars(table).into_iter().map(lie));
+    steps.extend(honest.iter().map(|peer| Step::Hand { peer: *peer, item }));
+    steps.extend(honest.iter().map(|peer| Step::Sign { peer: *peer, item }));
+    for peer in honest.iter().copied() {
+        let period = state.peer(peer).p;
+        let others = random.drawn(1..=table.n).into_iter().take(table.t + 1);
+        steps.extend(others.map(|other| Step::Take { peer, other, period, item }));
+    }
+    steps.extend(honest.iter().map(|peer| Step::Share { peer: *peer, item }));
+    steps.push(Step::Receipt { period, item });
+    steps.into_iter().map(|step| write_step(step).to_vec()).collect()
 }
 
 /// The step for each peer, and a take for each other too.
@@ -108,7 +136,7 @@ fn likely(random: &mut Random, table: &Table, state: &State) -> Vec<u8> {
     let closed = random.below(up_to);
     let step = match op {
         1 => Step::Post { item: random.below(table.m()) },
-        2 => Step::Hand { peer, item },
+        2 => Step::Hand { peer, item: or_given(random, state, peer, item) },
         3 => {
             let held = state.peer(peer).held.iter().filter(|held| held.0 == up_to);
             Step::Sign { peer, item: random.pick(held).map_or(item, |held| held.1) }
@@ -120,7 +148,8 @@ fn likely(random: &mut Random, table: &Table, state: &State) -> Vec<u8> {
         }
         5 => {
             let known = state.peer(peer).database.keys().filter(|key| key.0 == up_to);
-            Step::Share { peer, item: random.pick(known).map_or(item, |key| key.1) }
+            let item = random.pick(known).map_or(item, |key| key.1);
+            Step::Share { peer, item: or_given(random, state, peer, item) }
         }
         6 => {
             let share = random.pick(state.shares.iter().copied());
@@ -142,6 +171,16 @@ fn likely(random: &mut Random, table: &Table, state: &State) -> Vec<u8> {
         _ => return uniform_of(random, table, op),
     };
     write_step(step).to_vec()
+}
+
+/// The item, or now and then one that the peer gave a share for in an earlier period.
+fn or_given(random: &mut Random, state: &State, peer: usize, item: usize) -> usize {
+    let p = state.peer(peer).p;
+    let given = state.shares.iter().filter(|(k, q, _)| *k == peer && *q < p);
+    match random.pick(given) {
+        Some((_, _, given)) if random.once_in(3) => *given,
+        _ => item,
+    }
 }
 
 /// The number of a hash entry; mostly one that helps the peer to back.

@@ -1,75 +1,19 @@
 //! Demand 3 on random runs: the posts, receipts and boards held outside are
-//! those of the ideal board, every move of which was allowed.
+//! those of the ideal board, every move of which was allowed. And with them that no
+//! item has receipts in two periods.
 
-use inputs::making::Making;
+mod common;
+
+use common::{run_under_premise, Run};
+use inputs::given::receipted_twice;
 use inputs::places::{is_clash_of_places, receipts_of_places};
-use inputs::random::Random;
-use inputs::tables::Shape;
-use reference::form::{read_step, Step};
-use reference::ideal::{reaches_honest_share, IdealBoard};
+use reference::ideal::reaches_honest_share;
 use reference::season::Season;
 use reference::state::State;
 use reference::step::step;
-use reference::table::Table;
 use std::collections::{BTreeMap, BTreeSet};
 
 const RUNS: usize = 10_000;
-
-/// A run with what it came to, on the reference and on the ideal board.
-struct Run {
-    table: Table,
-    state: State,
-    ideal: IdealBoard,
-    /// Every call with its answer.
-    calls: Vec<(Vec<u8>, u8)>,
-}
-
-impl Run {
-    /// A random run on a table of so many peers.
-    fn random(number: usize, n: usize, t: usize, honest: usize, bursts: usize) -> Run {
-        let mut random = Random::new(SEED, number);
-        let shape = Shape { n, periods: random.between(1, 3), m: random.between(1, 9) };
-        let text = shape.table_with(&mut random, t, n - honest);
-        let mut making = Making::on(&mut random, text);
-        making.run_in_bursts(bursts);
-        Run::of(making.table, making.steps)
-    }
-
-    fn of(table: Table, steps: Vec<Vec<u8>>) -> Run {
-        let (state, ideal) = (State::fresh(&table), IdealBoard::new(&table));
-        let mut run = Run { table, state, ideal, calls: Vec::new() };
-        steps.into_iter().for_each(|bytes| run.call(bytes));
-        run
-    }
-
-    /// One step call; the ideal board is fed what document 01 lets it see.
-    /// Now and then the state is kept, to see that a refusal alters nothing.
-    fn call(&mut self, bytes: Vec<u8>) {
-        let backing = match read_step(&bytes) {
-            Ok(Step::Publish { entry }) => self.state.backing(entry),
-            _ => None,
-        };
-        let before = self.calls.len().is_multiple_of(20).then(|| self.state.clone());
-        let answer = step(&self.table, &mut self.state, &bytes);
-        assert!(answer == 0 || before.is_none_or(|state| state == self.state));
-        let told = backing.filter(|_| answer == 0);
-        self.ideal.feed(&self.table, &bytes, answer, told);
-        self.calls.push((bytes, answer));
-    }
-}
-
-/// The runs are the same ones each time.
-const SEED: u64 = 3;
-
-/// A run under the premise: t honest peers of n, and 3t > 2n.
-fn run_under_premise(number: usize) -> Run {
-    let mut random = Random::new(!SEED, number);
-    let most = if random.chance(10) { 16 } else { 6 };
-    let n = random.between(1, most);
-    let t = random.between(2 * n / 3 + 1, n);
-    let honest = random.between(t, n);
-    Run::random(number, n, t, honest, random.between(5, 30))
-}
 
 /// The single claim: equal posts, receipts and boards, every move allowed.
 fn equals_ideal_board(run: &Run) -> bool {
@@ -86,6 +30,7 @@ fn the_ideal_board_on_random_runs() {
         let run = run_under_premise(number);
         assert!(equals_ideal_board(&run), "run {number}");
         no_clash_outside(&run);
+        one_receipt_an_item(&run);
         one_board_a_period(&run);
         receipted_items_are_on_the_board(&run);
         board_items_are_posted_and_signed(&run);
@@ -105,6 +50,10 @@ fn no_clash_outside(run: &Run) {
     for x in &items {
         assert!(!items.iter().any(|y| run.table.clash(*x, *y)));
     }
+}
+
+fn one_receipt_an_item(run: &Run) {
+    assert_eq!(receipted_twice(&run.state), [].into());
 }
 
 fn one_board_a_period(run: &Run) {
@@ -158,6 +107,7 @@ struct Tally {
     runs_of_the_new_season: usize,
     clashes_of_places: usize,
     receipts_of_places: usize,
+    runs_with_a_share_given_before: usize,
 }
 
 impl Tally {
@@ -176,10 +126,11 @@ impl Tally {
         let clash = |(step, answer): &&(Vec<u8>, u8)| is_clash_of_places(&run.table, step, *answer);
         self.clashes_of_places += run.calls.iter().filter(clash).count();
         self.receipts_of_places += receipts_of_places(&run.table, &run.state);
+        self.runs_with_a_share_given_before += run.was_answered(17) as usize;
     }
 
     fn shows_enough(&self) {
-        for answer in [0, 5, 6, 7, 8, 9, 10, 11, 12, 13] {
+        for answer in [0, 5, 6, 7, 8, 9, 10, 11, 12, 13, 17] {
             assert!(self.answers[&answer] > 1000, "answer {answer}");
         }
         assert!(self.receipts > 5000);
@@ -190,6 +141,7 @@ impl Tally {
         assert!((RUNS / 3..2 * RUNS / 3).contains(&self.runs_of_the_new_season));
         assert!(self.clashes_of_places > 300);
         assert!(self.receipts_of_places > 100);
+        assert!(self.runs_with_a_share_given_before > 1000);
     }
 }
 

@@ -77,8 +77,9 @@ fn of_every_kind() {
     assert!(left_out[0] > 10_000 && left_out[1] > 1_000);
 }
 
-/// Each of the four kinds that are about totals can be missed, and that with two
-/// places: a rehearsal that keeps but the first step of the op is not of that kind.
+/// Each of the four kinds that are about totals can be missed, and those with two
+/// places and on two days: a rehearsal that keeps but the first step of the op is not
+/// of that kind.
 #[test]
 fn kinds_that_can_be_missed() {
     for (name, op) in [
@@ -87,6 +88,7 @@ fn kinds_that_can_be_missed() {
         ("publishes that come again", 12),
         ("two boards of one period", 12),
         ("audits from two places", 2),
+        ("a slip posted on two days", 5),
     ] {
         let mut all = (0..round()).map(|number| rehearsal(1, number));
         let (kind, input) = all.find(|(kind, _)| kind.name == name).expect("a kind");

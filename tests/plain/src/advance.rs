@@ -77,6 +77,7 @@ fn share(table: &Table, state: &mut State, step: &Fields) -> Done {
     table.need_honest(j)?;
     state.need_up(j)?;
     let p = state.need_open(table, j)?;
+    refuse_if((0..p).any(|q| state.shared[q][item] >> j & 1 == 1), GIVEN)?;
     table.need_threshold(state.databases[j][p][item])?;
     state.shared[p][item] |= 1 << j;
     Ok(())

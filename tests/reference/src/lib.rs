@@ -50,6 +50,7 @@ pub enum Refusal {
     Full = 13,
     Input = 15,
     Sheet = 16,
+    Given = 17,
 }
 
 impl Refusal {

@@ -112,13 +112,16 @@ fn take(
 }
 
 /// 5 share: j holds t signers on the item in p; its receipt share goes
-/// outside. Only for the open period.
+/// outside. Only for the open period. 17: j gave one for the item in an earlier
+/// period.
 fn share(table: &Table, state: &mut State, j: usize, item: usize) -> Done {
     name_peer(table, j)?;
     name_item(table, item)?;
     need_honest(table, j)?;
     need_up(state, j)?;
     let p = need_open(table, state, j)?;
+    let given = state.shares.iter().any(|(k, q, i)| *k == j && *q < p && *i == item);
+    refuse_if(given, Refusal::Given)?;
     need_threshold(table, state.peer(j).signers(p, item))?;
     state.shares.insert((j, p, item));
     Ok(())

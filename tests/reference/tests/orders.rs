@@ -1,5 +1,6 @@
 //! Numbers 9 to 13 for every op that has them, in the order in which they are
-//! judged. `Run::call` also checks that a refused call alters nothing.
+//! judged; 17 is in `given`. `Run::call` also checks that a refused call alters
+//! nothing.
 
 mod common;
 
