@@ -65,6 +65,38 @@ line 69, step 39: receipt 0 0
 }
 
 #[test]
+fn the_slip_on_two_days() {
+    let told = explain_text(&case("slip-on-two-days"), Which::Refused).unwrap();
+    let expected = "\
+line 40, step 16: share 3 0
+    8 down: peer 3 is down
+line 67, step 39: share 1 0
+    17 given: peer 1 gave its receipt share for item 0 in period 0; its open period is 1
+line 75, step 47: share 3 0
+    12 short: peer 3 has 1 of 3 signers on item 0 in its open period 1: 3; in period 0 it has \
+1, 2, 3
+line 82, step 54: share 1 0
+    17 given: peer 1 gave its receipt share for item 0 in period 0; its open period is 1
+line 83, step 55: share 2 0
+    17 given: peer 2 gave its receipt share for item 0 in period 0; its open period is 1
+line 86, step 58: receipt 1 0
+    12 short: item 0 has 2 of 3 receipt shares in period 1: from 3, 4
+line 130, step 96: share 1 0
+    17 given: peer 1 gave its receipt share for item 0 in period 0; its open period is 2
+line 131, step 97: share 3 0
+    17 given: peer 3 gave its receipt share for item 0 in period 1; its open period is 2
+line 132, step 98: share 1 1
+    17 given: peer 1 gave its receipt share for item 1 in period 1; its open period is 2
+line 133, step 99: receipt 2 0
+    12 short: item 0 has 0 of 3 receipt shares in period 2
+line 135, step 101: share 1 0
+    9 period: peer 1 has no open period: it has closed its last, period 2
+101 steps: 90 done, 11 refused
+";
+    assert_eq!(told, expected);
+}
+
+#[test]
 fn tables_that_are_refused() {
     for (name, expected) in [
         (

@@ -67,8 +67,14 @@ fn from_the_post_to_the_receipt() {
         ("close 2", "0 done: peer 2 has closed period 0, and period 1 is open"),
         (
             "share 2 0",
-            "12 short: peer 2 has 0 of 3 signers on item 0 in its open period 1; \
-                in period 0 it has 1, 2, 4",
+            "17 given: peer 2 gave its receipt share for item 0 in period 0; \
+                its open period is 1",
+        ),
+        ("close 1", "0 done: peer 1 has closed period 0, and period 1 is open"),
+        (
+            "share 1 0",
+            "12 short: peer 1 has 0 of 3 signers on item 0 in its open period 1; \
+                in period 0 it has 1",
         ),
         ("sign 2 0", "10 unknown: peer 2 does not hold item 0 in its open period 1, but in 0"),
         (
@@ -148,6 +154,45 @@ fn from_the_close_to_the_board() {
             "12 short: the board of period 0, no items, has 2 of 3 backings: from 1, 4",
         ),
     ]);
+}
+
+/// A peer that gave its share for an item gives none in any later period, with
+/// a quorum or without. It holds and signs the item again all the same.
+#[test]
+fn shares_given_in_an_earlier_period() {
+    let table = "peers 1 threshold 1 honest 1 periods 3\naudit 7\naudit 8\n";
+    let told = "table: 1 peer, honest 1; threshold 1; 3 periods, 2 items";
+    let given = "17 given: peer 1 gave its receipt share for item 0 in period 0";
+    let (on_1, on_2) =
+        (format!("{given}; its open period is 1"), format!("{given}; its open period is 2"));
+    let steps = [
+        ("post 0", "0 done: item 0 is posted"),
+        ("hand 1 0", "0 done: peer 1 holds item 0 in period 0"),
+        (
+            "sign 1 0",
+            "0 done: signature of peer 1 on item 0 in period 0; \
+                peer 1 has 1 of 1 signers on item 0 in period 0: 1 (new 1)",
+        ),
+        ("share 1 0", "0 done: receipt share of peer 1 on item 0 in period 0, 1 of 1"),
+        ("share 1 0", "0 done: nothing new"),
+        ("close 1", "0 done: peer 1 has closed period 0, and period 1 is open"),
+        ("share 1 0", &on_1),
+        ("share 1 1", "12 short: peer 1 has 0 of 1 signers on item 1 in its open period 1"),
+        ("hand 1 0", "0 done: peer 1 holds item 0 in period 1"),
+        (
+            "sign 1 0",
+            "0 done: signature of peer 1 on item 0 in period 1; \
+                peer 1 has 1 of 1 signers on item 0 in period 1: 1 (new 1)",
+        ),
+        ("share 1 0", &on_1),
+        ("receipt 1 0", "12 short: item 0 has 0 of 1 receipt shares in period 1"),
+        ("receipt 0 0", "0 done: receipt for item 0 in period 0"),
+        ("close 1", "0 done: peer 1 has closed period 1, and period 2 is open"),
+        ("share 1 0", &on_2),
+        ("close 1", "0 done: peer 1 has closed period 2, the last"),
+        ("share 1 0", "9 period: peer 1 has no open period: it has closed its last, period 2"),
+    ];
+    check_on((table, told), &steps);
 }
 
 #[test]

@@ -18,11 +18,11 @@ use std::collections::BTreeMap;
 const ROUNDS: usize = 4;
 
 /// The refusals of a step in the order in which they are judged: the table's,
-/// but that op 10 has 10 before 9.
+/// with 17 before 12, but that op 10 has 10 before 9.
 fn judged(bytes: &[u8]) -> &'static [Refusal] {
     match bytes.first() {
-        Some(10) => &[Form, Name, Role, Down, Unknown, Period, Clash, Short, Full],
-        _ => &[Form, Name, Role, Down, Period, Unknown, Clash, Short, Full],
+        Some(10) => &[Form, Name, Role, Down, Unknown, Period, Clash, Given, Short, Full],
+        _ => &[Form, Name, Role, Down, Period, Unknown, Clash, Given, Short, Full],
     }
 }
 

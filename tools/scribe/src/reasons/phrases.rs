@@ -22,6 +22,7 @@ pub fn word(refusal: Refusal) -> &'static str {
         Refusal::Full => "full",
         Refusal::Input => "input",
         Refusal::Sheet => "sheet",
+        Refusal::Given => "given",
     }
 }
 

@@ -24,6 +24,7 @@ pub fn why(table: &Table, state: &State, bytes: &[u8], refusal: Refusal) -> Reas
         Refusal::Period => period(table, state, step()?),
         Refusal::Unknown => unknown(state, step()?),
         Refusal::Clash => clash(table, state, step()?),
+        Refusal::Given => given(state, step()?),
         Refusal::Short => short(table, state, step()?),
         Refusal::Full => full(table, state, step()?),
         // These are of tables and inputs; `input` tells of them.
@@ -156,6 +157,15 @@ fn clash(table: &Table, state: &State, step: Step) -> Reason {
         format!("{} clashes with what peer {peer} holds: {}", item(table, new), clashing.join(", "))
     };
     (!clashing.is_empty()).then(reason)
+}
+
+/// 17: the peer's receipt share for the item, of a period before its open one.
+fn given(state: &State, step: Step) -> Reason {
+    let Step::Share { peer, item } = step else { return None };
+    let p = state.peer(peer).p;
+    let period = (0..p).find(|period| state.shares.contains(&(peer, *period, item)))?;
+    let start = format!("peer {peer} gave its receipt share for item {item} in period {period}");
+    Some(format!("{start}; its open period is {p}"))
 }
 
 /// 13: the entry that would be new, and no room.
