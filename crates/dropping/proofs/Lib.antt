@@ -1,0 +1,10 @@
+pub mod Passes
+pub mod Ends
+pub mod Replay
+pub mod Running
+pub mod Refused
+pub mod Left
+pub mod Rules
+pub mod Trying
+pub mod Passing
+pub mod Cases
