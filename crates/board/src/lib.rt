@@ -1,5 +1,5 @@
 // The engine for C, whose slices are a pointer and a length: `include/board.h` declares these functions.
-// It uses ballot, engine, rehearsal, printing and sheets, and adds nothing to what they promise.
+// It uses ballot, engine, rehearsal, shrinking, printing and sheets, and adds nothing to what they promise.
 ghost use Prim.Native.Nat.{_≤_};
 ghost use mathlib.Core.Path.{_≡_};
 ghost use lib.ListN.{length};
@@ -7,6 +7,7 @@ ghost use Rattle.ballot.specs.Table.{refusal};
 ghost use Rattle.state.specs.Layout.{size};
 ghost use Rattle.text.specs.Wrote.{over};
 ghost use Rattle.rehearsal.specs.Rehearsal.{reported, stateLeft, reportMost};
+ghost use Rattle.shrinking.specs.Shrunk.{shrunk, shrunkMost};
 ghost use Rattle.sheets.specs.Sheet.{sheetMost};
 ghost use Rattle.sheets.specs.Found.{sheetAnswer, found, foundNumber, foundOffset, foundLength};
 ghost use Rattle.printing.specs.Written.{written, sheetLeft, writtenNumber, writtenLength};
@@ -65,6 +66,24 @@ pub extern "C" fn board_rehearse(input: &[u8], state: &mut [u8], out: &mut [u8])
     ensures { λ _. ⌜ now (state .exit) ≡ stateLeft (now (input .entry)) (now (state .entry)) ⌝ }
 {
     rehearsal::rehearse(input, state, out)
+}
+
+// The length of an output that has room for every list of step numbers.
+#[no_mangle]
+pub extern "C" fn board_shrink_most() -> usize
+    ensures { λ r. ⌜ r ≡ shrunkMost ⌝ }
+{
+    shrinking::SHRUNK_MOST
+}
+
+// Shrinks the rehearsal of the input, a table and steps, and answers the length of the step numbers that are left, one
+// a line; as much of the text as fits is written.
+#[no_mangle]
+pub extern "C" fn board_shrink(input: &[u8], out: &mut [u8]) -> usize
+    ensures { λ r. ⌜ (r ≡ length (shrunk (now (input .entry)))) × (r ≤ shrunkMost) ⌝ }
+    ensures { λ _. ⌜ now (out .exit) ≡ over (now (out .entry)) 0 (shrunk (now (input .entry))) ⌝ }
+{
+    shrinking::shrink(input, out)
 }
 
 // The length of a buffer that has room for every sheet.

@@ -1,0 +1,4 @@
+pub mod Judged
+pub mod Left
+pub mod Printing
+pub mod Worked

@@ -1,0 +1,4 @@
+pub mod Shrunk
+pub mod Uncut
+pub mod Left
+pub mod Worked
