@@ -6,10 +6,13 @@
 //! - `lent`: bytes that are lent, and those around them
 //! - `pair`: engines and reference on the same calls
 //! - `sheets`: the same for sheets, written and read
+//! - `shrunk`: the same for rehearsals cut down, and what is promised of them
 //! - `given`: shares on lent states, and what is due
 //! - `closes`: closes of a period, run so: what was asked of them, and what came
 //! - `altered`: tables and sheets with other texts for their items
 //! - `wrong_shares`: engines that judge by another rule what was given
+//! - `wrong_shrinkers`: engines that cut rehearsals down in another way
+//! - `program`: the proved programs, from input to output
 
 pub mod altered;
 pub mod closes;
@@ -17,9 +20,12 @@ pub mod given;
 pub mod layout;
 pub mod lent;
 pub mod pair;
+pub mod program;
 pub mod row14;
 pub mod sheets;
+pub mod shrunk;
 pub mod wrong_shares;
+pub mod wrong_shrinkers;
 
 /// An engine over lent bytes.
 #[derive(Clone, Copy)]
@@ -33,6 +39,8 @@ pub struct Engine {
     pub step: fn(&[u8], &mut [u8], &[u8]) -> u8,
     /// Input, state and room for the report: the report's length.
     pub rehearse: fn(&[u8], &mut [u8], &mut [u8]) -> usize,
+    /// Input and room for the step numbers that are left: the text's length.
+    pub shrink: fn(&[u8], &mut [u8]) -> usize,
     /// Table, state, period, room for the sheet, and for its length: the answer.
     pub write_sheet: WriteSheet,
     /// Sheet: the answer.
@@ -50,6 +58,7 @@ pub const PROVED: Engine = Engine {
     fresh: board_fresh,
     step: board_step,
     rehearse: board_rehearse,
+    shrink: board_shrink,
     write_sheet: board_write_sheet,
     check_sheet: board_check_sheet,
     sheet_item: board_sheet_item,
@@ -61,6 +70,7 @@ pub const PLAIN: Engine = Engine {
     fresh: plain::fresh,
     step: plain::step,
     rehearse: plain::rehearse,
+    shrink: plain::shrink,
     write_sheet: plain::write_sheet,
     check_sheet: plain::check_sheet,
     sheet_item: plain::sheet_item,
@@ -88,6 +98,13 @@ mod c {
             input_length: usize,
             state: *mut u8,
             state_length: usize,
+            out: *mut u8,
+            out_length: usize,
+        ) -> usize;
+        pub fn board_shrink_most() -> usize;
+        pub fn board_shrink(
+            input: *const u8,
+            input_length: usize,
             out: *mut u8,
             out_length: usize,
         ) -> usize;
@@ -144,6 +161,16 @@ pub fn board_rehearse(input: &[u8], state: &mut [u8], out: &mut [u8]) -> usize {
     let (out, room) = (out.as_mut_ptr(), out.len());
     // Each pointer goes with its slice's length.
     unsafe { c::board_rehearse(input.as_ptr(), input.len(), state, length, out, room) }
+}
+
+pub fn board_shrink_most() -> usize {
+    // It takes nothing and reads no memory.
+    unsafe { c::board_shrink_most() }
+}
+
+pub fn board_shrink(input: &[u8], out: &mut [u8]) -> usize {
+    // Each pointer goes with its slice's length.
+    unsafe { c::board_shrink(input.as_ptr(), input.len(), out.as_mut_ptr(), out.len()) }
 }
 
 pub fn board_sheet_most() -> usize {

@@ -12,12 +12,14 @@
 //! - `making`: a rehearsal in the making, with the reference's state alongside
 //! - `period`: periods that go well, and lies that fill the bag
 //! - `protocol`: long rehearsals in which most steps are taken
+//! - `chain`: rehearsals that shrink by one step a pass
 //! - `bursts`, with `offers`: runs in bursts, shuffled, repeated and lost
 //! - `rehearsed`: a rehearsal with what the reference makes of it
 //! - `runs`, `wide`, `counted`, `odd`: rehearsals in the protocol's shape, those
 //!   with the most to report, those whose totals are easily counted wrong, and
 //!   those that are refused
 //! - `kinds`: every kind of rehearsal
+//! - `refused`: rehearsals whose last step is refused, and how they are cut short
 //! - `closes`, with `earlier` and `exchange`: closes of a period that come through,
 //!   and such as lack something
 //! - `answers`: which answers the steps got
@@ -26,6 +28,7 @@
 
 pub mod answers;
 mod bursts;
+pub mod chain;
 pub mod closes;
 mod counted;
 pub mod damaged;
@@ -40,6 +43,7 @@ pub mod period;
 pub mod places;
 pub mod protocol;
 pub mod random;
+pub mod refused;
 pub mod rehearsed;
 mod runs;
 pub mod seasons;

@@ -28,15 +28,42 @@ pub const PROTOCOLS: [Protocol; 2] = [
 impl Protocol {
     /// The bytes of the rehearsal, the same ones each time.
     pub fn input(&self) -> Vec<u8> {
+        self.made(&mut Random::new(self.n as u64, 0)).input()
+    }
+
+    fn made<'a>(&self, random: &'a mut Random) -> Making<'a> {
         let table = write_table(self.n, self.t, self.honest, self.periods, &items());
-        let mut random = Random::new(self.n as u64, 0);
-        let mut making = Making::on(&mut random, table);
+        let mut making = Making::on(random, table);
         for period in 0..self.periods as usize {
             making.offer_items(period, self.offers);
             making.publish_board(period);
         }
-        making.input()
+        making
     }
+}
+
+const CALLED: Protocol =
+    Protocol { name: "support-call", n: 7, t: 5, honest: 0x7F, periods: 8, offers: 9 };
+
+/// A support call: 4,000 steps, and the last was refused. Seven peers see nine items
+/// through in each of seven periods. In the eighth some are posted once more, and so is
+/// item 30: peer 3 holds it and signs it again, and gives no share: 17. Why? It gave one
+/// in the fourth period. 33 steps are left: by them five peers come to that period,
+/// hold the item and sign it; peer 3 takes the others' signatures, gives its share,
+/// closes the period, and is asked again.
+pub fn support_call() -> Vec<u8> {
+    let mut random = Random::new(CALLED.n as u64, 0);
+    let mut making = CALLED.made(&mut random);
+    let (peer, item) = (3, 30);
+    let tail = [
+        Step::Post { item },
+        Step::Hand { peer, item },
+        Step::Sign { peer, item },
+        Step::Share { peer, item },
+    ];
+    making.steps.truncate(4_000 - tail.len());
+    making.steps.extend(tail.map(|step| write_step(step).to_vec()));
+    making.input()
 }
 
 /// 48 votes; 8 audits, which clash with votes; 8 cancellations.

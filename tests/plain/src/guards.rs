@@ -16,6 +16,7 @@ pub const FULL: u8 = 13;
 pub const STATE: u8 = 14;
 pub const SHEET: u8 = 16;
 pub const GIVEN: u8 = 17;
+pub const CLEAN: u8 = 18;
 
 pub fn refuse_if(bad: bool, refusal: u8) -> Done {
     if bad {

@@ -8,23 +8,31 @@
 //! - `form`: 13 bytes as the fields of a step
 //! - `guards`: the refusals that several ops share
 //! - `advance`: the inner step, which validates nothing
+//! - `run`: an input's steps, run one by one
+//! - `lines`: text, line by line
 //! - `report`: the rehearsal
+//! - `shrink`: a short rehearsal that still refuses
 //! - `sheet`: a period's board as a sheet, written and read
 
 mod advance;
 mod differ;
 mod form;
 mod guards;
+mod lines;
 mod report;
+mod run;
 mod sheet;
+mod shrink;
 mod state;
 mod table;
 mod texts;
 mod valid;
 
 use guards::{refuse_if, STATE};
-pub use report::{rehearse, Run};
+pub use report::rehearse;
+pub use run::Run;
 pub use sheet::{check_sheet, sheet_item, write_sheet};
+pub use shrink::shrink;
 use state::State;
 use table::Table;
 

@@ -1,60 +1,22 @@
 //! The rehearsal, from input bytes to the report's bytes.
 
-use crate::advance::advance;
-use crate::answer;
-use crate::state::{Entry, State, BOARD, SIZE};
-use crate::table::Table;
-
-const MOST_INPUT: usize = 65_536;
-const STEP: usize = 13;
+use crate::lines::Lines;
+use crate::run::{Run, STEP};
+use crate::state::{Entry, BOARD};
 
 /// Writes the report and answers its length: as many bytes as there is room
 /// for are written. The state holds what the steps led to; what is refused,
 /// the state's length too, leaves it as it was.
 pub fn rehearse(input: &[u8], state: &mut [u8], out: &mut [u8]) -> usize {
-    let mut lines = Lines { out, length: 0 };
+    let mut lines = Lines::over(out);
     match Run::over(input, state) {
         Ok((mut run, steps)) => run.report(&mut lines, steps),
-        Err(refusal) => {
-            lines.text(b"refused ");
-            lines.last(refusal as usize);
-        }
+        Err(refusal) => lines.refused(refusal),
     }
     lines.length
 }
 
-/// A table with its clash masks, and the state under it.
-pub struct Run<'a> {
-    table: Table,
-    clashes: [u64; 64],
-    state: &'a mut State,
-}
-
-impl<'a> Run<'a> {
-    /// The run of an input from the fresh state, and its steps.
-    pub fn over<'b>(input: &'b [u8], state: &'a mut [u8]) -> Result<(Run<'a>, &'b [u8]), u8> {
-        if input.len() > MOST_INPUT {
-            return Err(15);
-        }
-        let (table, end) = Table::front(input)?;
-        if state.len() != SIZE {
-            return Err(14);
-        }
-        state.fill(0);
-        let clashes = table.all_clashes();
-        Ok((Run { table, clashes, state: State::over(state) }, &input[end..]))
-    }
-
-    /// The answer to one step.
-    pub fn step(&mut self, bytes: &[u8]) -> u8 {
-        answer(advance(&self.table, |item| self.clashes[item], self.state, bytes))
-    }
-
-    /// The state's bytes.
-    pub fn state(&self) -> &[u8] {
-        self.state.bytes()
-    }
-
+impl Run<'_> {
     fn report(&mut self, lines: &mut Lines, steps: &[u8]) {
         lines.text(b"peers ");
         lines.field(self.table.n as usize);
@@ -129,48 +91,5 @@ impl<'a> Run<'a> {
         lines.field({ self.state.posted }.count_ones() as usize);
         lines.field(receipts as usize);
         lines.last(items as usize);
-    }
-}
-
-/// The report's bytes so far.
-struct Lines<'a> {
-    out: &'a mut [u8],
-    length: usize,
-}
-
-impl Lines<'_> {
-    fn byte(&mut self, byte: u8) {
-        if let Some(place) = self.out.get_mut(self.length) {
-            *place = byte;
-        }
-        self.length += 1;
-    }
-
-    fn text(&mut self, text: &[u8]) {
-        for byte in text {
-            self.byte(*byte);
-        }
-    }
-
-    /// A number below 10,000 in decimal digits.
-    fn number(&mut self, number: usize) {
-        for unit in [1000, 100, 10] {
-            if number >= unit {
-                self.byte(b'0' + (number / unit % 10) as u8);
-            }
-        }
-        self.byte(b'0' + (number % 10) as u8);
-    }
-
-    /// A number and a blank.
-    fn field(&mut self, number: usize) {
-        self.number(number);
-        self.byte(b' ');
-    }
-
-    /// A number and the line's end.
-    fn last(&mut self, number: usize) {
-        self.number(number);
-        self.byte(b'\n');
     }
 }

@@ -60,6 +60,12 @@ impl State {
         unsafe { &*std::ptr::from_ref(self).cast() }
     }
 
+    /// Makes it the fresh state.
+    pub fn clear(&mut self) {
+        // It has no gaps, and zeros will do.
+        unsafe { std::ptr::from_mut(self).write_bytes(0, 1) }
+    }
+
     pub fn entries(&self) -> &[Entry] {
         &self.bag[..self.count as usize]
     }

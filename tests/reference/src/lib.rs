@@ -16,6 +16,7 @@
 //! - `totals`: the figures at its foot, counted from the accepted steps
 //! - `union`: the union of the databases, and its board
 //! - `sheet`: a published board as a file of its own, written and read
+//! - `shrink`: a rehearsal that was refused at its end, cut down
 //! - `ideal`: the ideal board
 
 mod false_steps;
@@ -26,6 +27,7 @@ mod refusals;
 pub mod report;
 pub mod season;
 pub mod sheet;
+pub mod shrink;
 pub mod state;
 pub mod step;
 pub mod table;
@@ -51,6 +53,7 @@ pub enum Refusal {
     Input = 15,
     Sheet = 16,
     Given = 17,
+    Clean = 18,
 }
 
 impl Refusal {

@@ -1,6 +1,7 @@
 //! Reads a rehearsal from standard input and writes its report to standard
 //! output; `reference sheet` reads a period's byte before it and writes that
-//! period's sheet.
+//! period's sheet; `reference shrink` writes the numbers of the steps that are left
+//! of it once it is cut down.
 
 use std::env;
 use std::io::{self, Read, Write};
@@ -11,7 +12,8 @@ fn main() -> io::Result<()> {
     let output = match args[..] {
         [] => reference::report::rehearse,
         ["sheet"] => reference::sheet::rehearsed_sheet,
-        _ => panic!("no arguments, or `sheet`"),
+        ["shrink"] => reference::shrink::shrink,
+        _ => panic!("no arguments, `sheet`, or `shrink`"),
     };
     let mut input = Vec::new();
     io::stdin().read_to_end(&mut input)?;
