@@ -18,7 +18,8 @@
  * Linking: nothing is allocated, and of the C library only memcpy and memset
  *   are called.
  * Refusals: a refused call alters nothing that is lent, no byte and no number;
- *   only board_rehearse then writes its line `refused N` to out.
+ *   only board_rehearse and board_shrink then write their line `refused N` to
+ *   out.
  */
 #ifndef BOARD_H
 #define BOARD_H
@@ -34,8 +35,9 @@ extern "C" {
  * 2: a report has the line `totals` before its last one.
  * 3: sheets: the answer 16, a layout and four functions.
  * 4: tables of season 2, whose audits name their place.
- * 5: the answer 17: a peer gives its share for an item in one period only. */
-#define BOARD_VERSION 5
+ * 5: the answer 17: a peer gives its share for an item in one period only.
+ * 6: shrinking: the answer 18 and two functions. */
+#define BOARD_VERSION 6
 
 /* The answers, by their words. A number that is not here is a refusal too. */
 enum board_answer {
@@ -56,7 +58,8 @@ enum board_answer {
     BOARD_STATE = 14,
     BOARD_INPUT = 15,
     BOARD_SHEET = 16,
-    BOARD_GIVEN = 17
+    BOARD_GIVEN = 17,
+    BOARD_CLEAN = 18
 };
 
 /* The steps, by their words; beside each the fields that it uses. */
@@ -170,10 +173,12 @@ enum board_entry_kind {
     BOARD_ENTRY_BOARD = 3
 };
 
-/* A rehearsal: the most bytes of input that are judged, and the length of an
- * output that has room for every report. */
+/* A rehearsal: the most bytes of input that are judged, and the lengths of
+ * outputs that have room for every report, and for every list of the steps that
+ * are left. */
 #define BOARD_INPUT_MOST 65536
 #define BOARD_REPORT_MOST 222000
+#define BOARD_SHRINK_MOST 25205
 
 /* Judges a table: 0, or 1 to 4. */
 uint8_t board_check_table(const uint8_t *table, size_t table_length);
@@ -209,6 +214,25 @@ size_t board_report_most(void);
 size_t board_rehearse(const uint8_t *input, size_t input_length,
                       uint8_t *state, size_t state_length,
                       uint8_t *out, size_t out_length);
+
+/* The length of an output that has room for every list of steps that are left, in
+ * bytes: BOARD_SHRINK_MOST. */
+size_t board_shrink_most(void);
+
+/* Shrinks the rehearsal of the input, a table and then steps of which the last is
+ * refused: the length in bytes of a text, of which as many as fit are written to
+ * out. The text is the numbers of the steps that are left, counted from 1 in the
+ * input's order, one a line.
+ * Going from the last step but one to the first, each step is dropped without
+ * which the last answer stays the same number, and again until a pass drops none;
+ * each trial runs the steps that are still there, their bytes as they are, from a
+ * fresh state. So the last step is left, and no single other one can be left out
+ * without changing its answer.
+ * An input that is refused (15, or 1 to 4), or that is clean (18: it has no steps,
+ * or the last one answers 0), has the text `refused N`, one line. State and marks
+ * are the function's own, some 30,000 bytes on the stack. */
+size_t board_shrink(const uint8_t *input, size_t input_length,
+                    uint8_t *out, size_t out_length);
 
 /* The length of a buffer that has room for every sheet, in bytes:
  * BOARD_SHEET_MOST. */

@@ -11,6 +11,8 @@ int main(void) {
             && board_step(&table, 0, &state, 0, &step, 0) == BOARD_HEADER
             && board_report_most() == BOARD_REPORT_MOST
             && board_rehearse(&table, 0, &state, 0, &out, 0) > 0
+            && board_shrink_most() == BOARD_SHRINK_MOST
+            && board_shrink(&table, 0, &out, 0) > 0
             && board_sheet_most() == BOARD_SHEET_MOST
             && board_write_sheet(&table, 0, &state, 0, 0, &sheet, 0, &length) == BOARD_HEADER
             && board_check_sheet(&sheet, 0) == BOARD_SHEET

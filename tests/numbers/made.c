@@ -82,8 +82,8 @@ void put_entry(uint8_t *of, int number, int kind, int signer, int period, uint64
     of[BOARD_STATE_COUNT_AT + 1] = (uint8_t)((number + 1) / 256);
 }
 
-uint8_t answer_of(struct step s) {
-    uint8_t bytes[2 * BOARD_STEP_LENGTH] = {0};
+void put_step(uint8_t *bytes, struct step s) {
+    memset(bytes, 0, 2 * BOARD_STEP_LENGTH);
     bytes[BOARD_STEP_OP_AT] = (uint8_t)s.op;
     bytes[BOARD_STEP_PEER_AT] |= (uint8_t)s.peer;
     bytes[BOARD_STEP_OTHER_AT] |= (uint8_t)s.other;
@@ -93,6 +93,11 @@ uint8_t answer_of(struct step s) {
     for (int i = 0; i < 8; i++) {
         bytes[BOARD_STEP_BOARD_AT + i] |= (uint8_t)(s.board >> (56 - 8 * i));
     }
+}
+
+uint8_t answer_of(struct step s) {
+    uint8_t bytes[2 * BOARD_STEP_LENGTH];
+    put_step(bytes, s);
     return board_step(table, table_length, state, BOARD_STATE_LENGTH, bytes, BOARD_STEP_LENGTH);
 }
 

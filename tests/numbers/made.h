@@ -49,6 +49,10 @@ struct step {
     uint64_t board;
 };
 
+/* A step of these fields, and as many bytes 0 behind it, where a field would stand
+ * if its place were altered. */
+void put_step(uint8_t *bytes, struct step step);
+
 /* The answer to a step of these fields, by their names; the others are 0. */
 #define STEP(...) answer_of((struct step){__VA_ARGS__})
 uint8_t answer_of(struct step step);
@@ -57,5 +61,6 @@ uint8_t answer_of(struct step step);
 void check_table_numbers(void);
 void check_state_numbers(void);
 void check_sheet_numbers(void);
+void check_shrink_numbers(void);
 
 #endif

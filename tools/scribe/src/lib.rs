@@ -1,4 +1,4 @@
-//! A rehearsal as text, as bytes, and told step by step; a sheet as text.
+//! A rehearsal as text, as bytes, told step by step, and cut down; a sheet as text.
 //! README.md has the grammar.
 //!
 //! - `words`, `table`, `steps`: the lines of the text, and their bytes
@@ -8,6 +8,7 @@
 //! - `names`: names that a table does not have
 //! - `reasons`: why a step got its answer, and what it brought
 //! - `explain`: the telling, line by line
+//! - `keep`: the lines that are left of a rehearsal that was cut down
 //! - `sheet`: a sheet's lines, or what makes bytes no sheet
 //!
 //! Nothing is judged on the way from text to bytes but what cannot be laid out
@@ -15,6 +16,7 @@
 //! does not exist can be written, and the engine gives its number.
 
 pub mod explain;
+pub mod keep;
 mod names;
 mod pairs;
 pub mod reasons;

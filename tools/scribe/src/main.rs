@@ -1,13 +1,16 @@
-//! `scribe bytes`, `scribe text`, `scribe explain` and `scribe sheet`, from
-//! standard input to standard output.
+//! `scribe bytes`, `scribe text`, `scribe explain`, `scribe keep` and `scribe
+//! sheet`, from standard input to standard output.
 
 use scribe::explain::{explain_bytes, explain_text, is_text, Which};
+use scribe::keep::Lines;
+use std::fs;
 use std::io::{self, Read, Write};
 use std::process::ExitCode;
 
 const USAGE: &str = "usage: scribe bytes < case.txt > case.bin, \
     scribe text < case.bin > case.txt, \
     scribe explain [--last | --refused] [--text | --bytes] < case, \
+    scribe keep NUMBERS [--text | --bytes] < case, \
     or scribe sheet < board.sheet";
 
 fn main() -> ExitCode {
@@ -27,6 +30,7 @@ fn run() -> Result<Vec<u8>, String> {
         ["bytes"] => bytes(),
         ["text"] => Ok(scribe::text(&input()?)?.into_bytes()),
         ["explain", ref flags @ ..] => explain(flags),
+        ["keep", numbers, ref flags @ ..] => keep(numbers, flags),
         ["sheet"] => Ok(scribe::sheet(&input()?)?.into_bytes()),
         _ => Err(USAGE.to_string()),
     }
@@ -58,6 +62,25 @@ fn explain(flags: &[&str]) -> Result<Vec<u8>, String> {
         false => explain_bytes(&input, which),
     };
     Ok(told.into_bytes())
+}
+
+/// The steps whose numbers stand in a file. Errors of that file name it.
+fn keep(file: &str, flags: &[&str]) -> Result<Vec<u8>, String> {
+    let text = match flags {
+        [] => None,
+        ["--text"] => Some(true),
+        ["--bytes"] => Some(false),
+        _ => return Err(USAGE.to_string()),
+    };
+    let of_file = |error: String| format!("{file}: {error}");
+    let numbers = fs::read(file).map_err(|error| of_file(error.to_string()))?;
+    let numbers = utf8(numbers).map_err(of_file)?;
+    let input = input()?;
+    let lines = match text.unwrap_or(is_text(&input)) {
+        true => Lines::of_text(&utf8(input)?)?,
+        false => Lines::of_bytes(&input)?,
+    };
+    Ok(lines.keep(&numbers).map_err(of_file)?.into_bytes())
 }
 
 fn input() -> Result<Vec<u8>, String> {

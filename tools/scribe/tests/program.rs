@@ -2,6 +2,7 @@
 //! for what cannot be read.
 
 use scribe::bytes;
+use std::fs;
 use std::io::Write;
 use std::process::{Command, Output, Stdio};
 
@@ -56,6 +57,60 @@ fn explanations_of_the_program() {
         115 periods, but a table has 1 to 8\n";
     let as_bytes = output(&["explain", "--bytes"], text.as_bytes());
     assert_eq!(as_bytes, (letters.to_string(), String::new()));
+}
+
+/// The path of a file with these contents.
+fn file(name: &str, contents: &[u8]) -> String {
+    let path = format!("{}/{name}", env!("CARGO_TARGET_TMPDIR"));
+    fs::write(&path, contents).unwrap();
+    path
+}
+
+/// Three steps, of which the last is refused by 6.
+fn three() -> String {
+    format!("{HEADER}\naudit 7\npost 0\nhand 1 0\npost 1 # 6\n")
+}
+
+#[test]
+fn steps_kept_by_the_program() {
+    let (numbers, text) = (file("kept.left", b"1\n3\n"), three());
+    let kept = |last: &str| {
+        let lines = format!("{HEADER}\naudit 7\npost 0  # step 1\n{last}  # step 3\n");
+        (lines, String::new())
+    };
+    assert_eq!(output(&["keep", &numbers], text.as_bytes()), kept("post 1 # 6"));
+    assert_eq!(output(&["keep", &numbers, "--text"], text.as_bytes()), kept("post 1 # 6"));
+    let input = bytes(&text).unwrap();
+    assert_eq!(output(&["keep", &numbers], &input), kept("post 1"));
+    assert_eq!(output(&["keep", &numbers, "--bytes"], &input), kept("post 1"));
+}
+
+/// What is wrong with the file of numbers has its name before it.
+#[test]
+fn steps_not_kept_by_the_program() {
+    let good = &file("good.left", b"3\n")[..];
+    let clean = &file("clean.left", b"refused 18\n")[..];
+    let strange = &file("strange.left", b"1\n\xFF\n")[..];
+    let absent = &format!("{good}.absent")[..];
+    let usage = || "usage: scribe bytes".to_string();
+    let failures: [(&[&str], String); 7] = [
+        (
+            &["keep", clean],
+            format!("{clean}: it says \"refused 18\": the last step is not refused"),
+        ),
+        (&["keep", strange], format!("{strange}: line 2: expected text in UTF-8")),
+        (&["keep", absent], format!("{absent}: No such file")),
+        (&["keep", good, "--bytes"], "no text for this table: ".to_string()),
+        (&["keep"], usage()),
+        (&["keep", good, good], usage()),
+        (&["keep", good, "--text", "--bytes"], usage()),
+    ];
+    for (arguments, message) in failures {
+        let output = program(arguments, three().as_bytes());
+        assert_eq!((output.status.code(), output.stdout), (Some(1), Vec::new()));
+        let error = String::from_utf8(output.stderr).unwrap();
+        assert!(error.starts_with(&format!("scribe: {message}")), "{error}");
+    }
 }
 
 #[test]

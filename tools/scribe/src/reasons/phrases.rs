@@ -23,6 +23,7 @@ pub fn word(refusal: Refusal) -> &'static str {
         Refusal::Input => "input",
         Refusal::Sheet => "sheet",
         Refusal::Given => "given",
+        Refusal::Clean => "clean",
     }
 }
 

@@ -29,8 +29,8 @@ pub fn why(table: &Table, state: &State, bytes: &[u8], refusal: Refusal) -> Reas
         Refusal::Full => full(table, state, step()?),
         // These are of tables and inputs; `input` tells of them.
         Refusal::Header | Refusal::Pairs | Refusal::Item | Refusal::Twin | Refusal::Input => None,
-        // This is of a sheet, and no step's.
-        Refusal::Sheet => None,
+        // These are of a sheet and of what is to be cut down, and no step's.
+        Refusal::Sheet | Refusal::Clean => None,
     }
 }
 
