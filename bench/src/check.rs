@@ -2,10 +2,12 @@
 //! is timed. The gate compares them on many more.
 
 use crate::shown::Shown;
-use crate::OUT;
+use crate::shrunk::Shrunk;
+use crate::{parts, OUT};
 use engine::layout::{encode, LENGTH};
 use engine::pair::Pair;
 use engine::sheets::{Reading, Writing};
+use engine::shrunk::written;
 use engine::{Engine, ENGINES};
 use inputs::random::Random;
 use inputs::rehearsed::Rehearsed;
@@ -59,4 +61,15 @@ fn report(input: &[u8], expected: &[u8], after: Option<Vec<u8>>) {
         assert!(out[..length] == *expected, "{name}: another report");
         assert!(after.as_ref().is_none_or(|after| *after == state), "{name}: another state");
     }
+}
+
+/// Each engine leaves the steps that must be left; how many there were, and are.
+pub fn shrunk(Shrunk { name, input, left }: &Shrunk) -> [usize; 2] {
+    let (input, left) = (input(), left());
+    let expected: String = left.iter().map(|number| format!("{number}\n")).collect();
+    for engine in ENGINES {
+        let text = written(&engine, &input);
+        assert!(text == expected.as_bytes(), "{}: {name}: other steps", engine.name);
+    }
+    [parts(&input).1.len(), left.len()]
 }

@@ -6,17 +6,19 @@
 //!     bench count ENGINE CALL INPUT [OP]   one round, for a tool that counts
 //!
 //! With an op, `count` calls only its steps; CALL is `step`, or `form` for as
-//! many calls without a step.
+//! many calls without a step. With the CALL `shrink` the input is cut down once.
 
 mod check;
 mod engines;
 mod measure;
 mod ops;
 mod shown;
+mod shrunk;
 
 use inputs::answers::ROWS;
 use inputs::protocol::PROTOCOLS;
-use measure::{Bench, CALLS};
+use measure::{best_times, Bench, CALLS};
+use shrunk::SHRUNK;
 use std::collections::BTreeMap;
 use std::fs;
 use std::path::Path;
@@ -47,6 +49,9 @@ fn write_inputs(folder: &Path) {
     for protocol in &PROTOCOLS {
         fs::write(folder.join(protocol.name), protocol.input()).expect("a folder to write to");
     }
+    for shrunk in &SHRUNK {
+        fs::write(folder.join(shrunk.name), (shrunk.input)()).expect("a folder to write to");
+    }
 }
 
 fn read(input: &str) -> Vec<u8> {
@@ -59,6 +64,7 @@ fn count(engine: &str, call: &str, input: &str, op: Option<u8>) {
     let input = read(input);
     let calls = match op {
         Some(op) => ops::round(&engine, op, call == "form", &input),
+        None if call == "shrink" => shrunk::round(&engine, &input),
         None => Bench::over(&input).round(&engine, call),
     };
     println!("{calls}");
@@ -71,13 +77,35 @@ fn print_times(cases: &Path) {
         let answers = check::input(&input);
         println!("\n{}: {} bytes, {} steps", protocol.name, input.len(), answers.len());
         print_mix(&input, &answers);
-        println!("{:24} {:>10} {:>10} {:>7}", "nanoseconds", "plain", "proved", "ratio");
+        print_head("nanoseconds");
         let mut bench = Bench::over(&input);
         for call in CALLS {
-            let [plain, proved] = bench.times(call);
-            println!("{call:24} {plain:10.1} {proved:10.1} {:7.2}", proved / plain);
+            print_row(call, bench.times(call));
         }
     }
+    print_shrunk();
+}
+
+fn print_shrunk() {
+    println!();
+    for shrunk in &SHRUNK {
+        let [steps, left] = check::shrunk(shrunk);
+        println!("{}: {steps} steps, {left} left", shrunk.name);
+    }
+    print_head("shrink, milliseconds");
+    for shrunk in &SHRUNK {
+        let input = (shrunk.input)();
+        let times = best_times(shrunk::ROUNDS, |engine| shrunk::round(engine, &input));
+        print_row(shrunk.name, times.map(|nanoseconds| nanoseconds / 1e6));
+    }
+}
+
+fn print_head(what: &str) {
+    println!("{what:24} {:>10} {:>10} {:>7}", "plain", "proved", "ratio");
+}
+
+fn print_row(name: &str, [plain, proved]: [f64; 2]) {
+    println!("{name:24} {plain:10.1} {proved:10.1} {:7.2}", proved / plain);
 }
 
 /// The ops that there are: number, name, and how many steps.

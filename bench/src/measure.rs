@@ -57,16 +57,21 @@ impl<'a> Bench<'a> {
     /// The best times of the plain and the proved engine, in nanoseconds for
     /// each call or step.
     pub fn times(&mut self, call: &str) -> [f64; 2] {
-        let mut best = [f64::MAX; 2];
-        for _ in 0..ROUNDS {
-            for (engine, best) in [PLAIN, PROVED].iter().zip(&mut best) {
-                let start = Instant::now();
-                let calls = self.round(engine, call);
-                *best = best.min(start.elapsed().as_nanos() as f64 / calls as f64);
-            }
-        }
-        best
+        best_times(ROUNDS, |engine| self.round(engine, call))
     }
+}
+
+/// The same of so many rounds, of which each tells how many calls it had.
+pub fn best_times(rounds: usize, mut round: impl FnMut(&Engine) -> usize) -> [f64; 2] {
+    let mut best = [f64::MAX; 2];
+    for _ in 0..rounds {
+        for (engine, best) in [PLAIN, PROVED].iter().zip(&mut best) {
+            let start = Instant::now();
+            let calls = round(engine);
+            *best = best.min(start.elapsed().as_nanos() as f64 / calls as f64);
+        }
+    }
+    best
 }
 
 /// The same call again and again; how often.
