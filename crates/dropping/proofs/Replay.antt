@@ -1,7 +1,7 @@
 -- The kept calls as a list of their own: with the last step kept it is the last of them, and gets the last answer.
 use Prim.Native.Nat.{ℕ, suc}
 use mathlib.Core.Bool.{true, false}
-use mathlib.Core.List.{List, [], _∷_, _++_}
+use mathlib.Core.List.{List, [], _∷_, _++_, append-nil}
 use mathlib.Core.Path.{_≡_, refl, ap}
 use Rattle.rules.specs.Run.{Engine, storeFrom, answersFrom}
 use Rattle.dropping.specs.Kept.{Kept, keptCalls}
@@ -30,10 +30,6 @@ module _ {X : Type 0} (E : Engine X) where
 
 -- one more step: kept, or not
 
-append-none : (l : List (List ℕ)) → l ++ [] ≡ l
-append-none [] = refl
-append-none (c ∷ l) = ap (λ (r : List (List ℕ)). c ∷ r) (append-none l)
-
 module _ (call : ℕ → List ℕ) (keep : Kept) (k : ℕ) where
   pub calls-kept : keep k ≡ true → keptCalls call keep (suc k) ≡ keptCalls call keep k ++ (call k ∷ [])
   unfolding keptCalls
@@ -41,7 +37,7 @@ module _ (call : ℕ → List ℕ) (keep : Kept) (k : ℕ) where
 
   pub calls-skipped : keep k ≡ false → keptCalls call keep (suc k) ≡ keptCalls call keep k
   unfolding keptCalls
-  calls-skipped e = rw e (append-none (keptCalls call keep k))
+  calls-skipped e = rw e (append-nil (keptCalls call keep k))
 
 pub replays : {X : Type 0} (E : Engine X) (call : ℕ → List ℕ) (last : ℕ) (keep : Kept) → keep last ≡ true → Replays E call last keep
 unfolding lastAnswer
