@@ -1,14 +1,16 @@
 -- A table that is not refused is sound: each of its facts comes from one of the tests that it has passed.
 use Prim.Native.Nat.{ℕ, _<_}
+use native.Mathlib.Omega.{arith}
 use mathlib.Core.Bool.{true}
 use mathlib.Core.List.{List}
 use mathlib.Core.Path.{_≡_, sym, ap, _∙_}
 use lib.ListN.{length}
 use borrow.Author.Tests.{lt-ltb, not-false}
 use Rattle.base.proofs.Refusals.{passed}
-use Rattle.header.specs.Header.{headerSize, peersOf, thresholdOf, itemsOf, headerOk}
+use Rattle.header.specs.Header.{headerSize, peersOf, thresholdOf, itemsOf, totalWeight, headerOk}
 use Rattle.header.proofs.TwoThirds.{threshold-rule}
-use Rattle.header.proofs.Ranges.{peers-range, threshold-range, honest-range, periods-range, items-range}
+use Rattle.header.proofs.Ranges.{peers-range, weights-right, threshold-range, honest-range, periods-range, items-range}
+use Rattle.header.proofs.Weighing.{weight-range, weight-read, total-most}
 use Rattle.pairs.specs.Pairs.{textOf}
 use Rattle.pairs.proofs.Texts.{text-within, text-length}
 use Rattle.twins.proofs.Apart.{same-number}
@@ -43,13 +45,18 @@ sound s e =
     let items = not-false (itemsOk s) (tests .1 .1 .0) in
     let twins = not-false (noTwins s) (tests .1 .1 .1 .0) in
     let peers = peers-range s header in
+    let weights = weights-right s header in
     let threshold = threshold-range s header in
     let periods = periods-range s header in
     record {
       peers-least = peers .0;
       peers-most = peers .1;
-      threshold-rule = threshold-rule (peersOf s) (thresholdOf s) (peers .0) (peers .1) (threshold .0);
-      threshold-most = threshold .1;
+      weight-least = λ k. weight-range s weights k .0;
+      weight-most = λ k. weight-range s weights k .1;
+      weight-read = weight-read s header;
+      threshold-rule = threshold-rule (totalWeight s) (thresholdOf s) (threshold .0);
+      threshold-most = omega (arith, threshold .1);
+      total-most = omega (arith, total-most s weights (peersOf s), peers .1);
       honest-peer = honest-range s header;
       periods-least = periods .0;
       periods-most = periods .1;

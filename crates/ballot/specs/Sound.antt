@@ -4,7 +4,9 @@ use mathlib.Core.Bool.{true}
 use mathlib.Core.List.{List}
 use mathlib.Core.Path.{_≡_}
 use lib.ListN.{length}
-use Rattle.header.specs.Header.{headerSize, peersOf, thresholdOf, periodsOf, itemsOf, headOf, isHonest}
+use Rattle.header.specs.Header.{headerSize, peersOf, thresholdOf, periodsOf, itemsOf, weightIn, totalWeight, headOf}
+use Rattle.header.specs.Header.{isHonest}
+use Rattle.header.specs.Quorum.{weightOf}
 use Rattle.pairs.specs.Pairs.{offsetOf, sizeOf}
 use Rattle.ballot.specs.declared.item.Audits.the-variants.{Either}
 use Rattle.ballot.specs.Item.{isItem}
@@ -14,9 +16,14 @@ pub record Sound (s : List ℕ) : Type 0 where
   -- n is 1 to 16
   pub peers-least : 1 ≤ peersOf s
   pub peers-most : peersOf s ≤ 16
-  -- t is more than two thirds of n, and at most n
-  pub threshold-rule : 2 * peersOf s < 3 * thresholdOf s
-  pub threshold-most : thresholdOf s ≤ peersOf s
+  -- the weight of each peer is 1 to 4, and the header's struct has it
+  pub weight-least : (k : ℕ) → 1 ≤ weightIn s k
+  pub weight-most : (k : ℕ) → weightIn s k ≤ 4
+  pub weight-read : (k : ℕ) → weightOf (headOf s) k ≡ weightIn s k
+  -- 2W < 3t ≤ 3W, and W is at most 64
+  pub threshold-rule : 2 * totalWeight s < 3 * thresholdOf s
+  pub threshold-most : 3 * thresholdOf s ≤ 3 * totalWeight s
+  pub total-most : totalWeight s ≤ 64
   -- the honest peers are among the n
   pub honest-peer : (k : ℕ) → isHonest (headOf s) k ≡ true → (1 ≤ k) × (k ≤ peersOf s)
   -- P is 1 to 8

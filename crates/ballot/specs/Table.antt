@@ -5,7 +5,7 @@ use mathlib.Core.List.{List, [], _∷_}
 use lib.Dec.{ltb}
 use Rattle.base.specs.Refusals.{Refusals, header, pairs, item, twin, numbered, first}
 use Rattle.header.specs.declared.season.Season.{Season}
-use Rattle.header.specs.declared.season.Season.the-variants.{First, Second}
+use Rattle.header.specs.declared.season.Season.the-variants.{First, Second, Third}
 use Rattle.header.specs.Season.{seasonOf}
 use Rattle.header.specs.Header.{headerSize, itemsOf, headerOk}
 use Rattle.pairs.specs.Pairs.{textOf, pairsOk}
@@ -30,6 +30,7 @@ itemText s k = itemBelow s (itemsOf s) k
 abbrev pub auditsIn : Season → Audits
 auditsIn First = Bare
 auditsIn Second = Placed
+auditsIn Third = Placed
 
 -- the audits of a table
 abbrev pub auditsOf : List ℕ → Audits

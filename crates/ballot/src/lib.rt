@@ -23,6 +23,7 @@ fn audits_in(season: Season) -> Audits
     match season {
         Season::First => Audits::Bare,
         Season::Second => Audits::Placed,
+        Season::Third => Audits::Placed,
     }
 }
 

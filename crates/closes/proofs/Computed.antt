@@ -8,7 +8,7 @@ use Rattle.base.specs.Refusals.{first}
 use Rattle.base.specs.Sets.{add1, add2, add3, add4, setAt}
 use Rattle.base.specs.Tab.{tab}
 use Rattle.base.specs.Weight.{weight}
-use Rattle.header.specs.Header.{headerSize, fieldOf}
+use Rattle.header.specs.Header.{headerSize, fieldOf, weightIn, peersWith}
 use Rattle.header.specs.Quorum.{weightOf}
 use Rattle.ballot.specs.Item.{readKind, readItem}
 use Rattle.ballot.specs.Table.{itemBelow}
@@ -43,9 +43,10 @@ pub record Computed : Type 0 where
   pub by-others-ends : Ends (rulesTable table4) (ruled (rulesTable table4)) earlier4 byOthers4 (written (Publish 4))
 
 pub computed : Computed
-unfolding headerSize fieldOf weightOf first any every bit member pack numberAt part sameBytes readItem readKind itemBelow clashIn clash
-    add1 add2 add3 add4 setAt weight clashing sameEntry isIn enter isFull boardsIn allZero formed select ops laterOps read boardFrom
-    addRows rule answer next reply leave deed deedOf backingNamed seenWith runFrom after unionOf tab placeIn everyPlace
+unfolding headerSize fieldOf weightIn peersWith weightOf first any every bit member pack numberAt part sameBytes readItem readKind
+    itemBelow clashIn clash add1 add2 add3 add4 setAt weight clashing sameEntry isIn enter isFull boardsIn allZero formed select ops
+    laterOps read boardFrom addRows rule answer next reply leave deed deedOf backingNamed seenWith runFrom after unionOf tab placeIn
+    everyPlace
 computed = record {
   two-planned = search;
   two-ends = search;

@@ -3,11 +3,12 @@ use Prim.Native.Nat.{ℕ}
 use mathlib.Core.List.{List}
 use mathlib.Core.Path.{_≡_, sym, subst}
 use Rattle.base.specs.Below.{every}
-use Rattle.base.specs.Bits.{bit, member}
+use Rattle.base.specs.Bits.{bit, member, pack}
 use Rattle.base.specs.Bytes.{numberAt, part, sameBytes}
 use Rattle.base.specs.Refusals.{first}
 use Rattle.base.specs.Weight.{weight}
-use Rattle.header.specs.Header.{headerSize, fieldOf, leastThreshold, thresholdOk, fieldsOk, headerOk}
+use Rattle.header.specs.Header.{headerSize, fieldOf, weightIn, peersWith, leastThreshold, weightsOk, thresholdOk, fieldsOk, headerOk}
+use Rattle.header.specs.Quorum.{weightOf}
 use Rattle.pairs.specs.Pairs.{endBefore, startsAtEnd, pairsFit, pairsOk}
 use Rattle.twins.specs.Twins.{differ, newAt, twinless}
 use Rattle.ballot.specs.Item.{readKind, readItem, isItem, itemAt, allItems}
@@ -41,9 +42,9 @@ pub record Honest : Type 0 where
   pub four : NoneDishonest table4
 
 honest : Honest
-unfolding refusal headerOk headerSize fieldOf fieldsOk thresholdOk leastThreshold tablePairsOk pairsOk pairsFit startsAtEnd endBefore
-    itemBelow itemsOk allItems itemAt isItem noTwins twinless newAt differ readItem readKind first every numberAt part sameBytes bit member
-    weight
+unfolding refusal headerOk headerSize fieldOf weightIn weightsOk fieldsOk thresholdOk leastThreshold tablePairsOk pairsOk pairsFit
+    startsAtEnd endBefore itemBelow itemsOk allItems itemAt isItem noTwins twinless newAt differ readItem readKind first every numberAt
+    part sameBytes bit member pack weight peersWith weightOf
 honest = search
 
 -- what holds of the rules of a table holds of its bytes

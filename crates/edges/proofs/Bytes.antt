@@ -7,12 +7,12 @@ use lib.Dec.{eqb}
 use borrow.Author.Tests.{eqb-true}
 use Rattle.base.specs.Refusals.{first}
 use Rattle.base.specs.Below.{every}
-use Rattle.base.specs.Bits.{bit, member}
+use Rattle.base.specs.Bits.{bit, member, pack}
 use Rattle.base.specs.Weight.{weight}
 use Rattle.base.specs.Bytes.{numberAt, part, sameBytes}
 use Rattle.base.proofs.Truth.{and-l, and-r}
 use Rattle.header.specs.Header.{headOf, thresholdOf, honestCount}
-use Rattle.header.specs.Header.{headerSize, fieldOf, leastThreshold, thresholdOk, fieldsOk, headerOk}
+use Rattle.header.specs.Header.{headerSize, fieldOf, weightIn, peersWith, leastThreshold, weightsOk, thresholdOk, fieldsOk, headerOk}
 use Rattle.header.proofs.Seasons.{starts-otherwise, first-field}
 use Rattle.pairs.specs.Pairs.{endBefore, startsAtEnd, pairsFit, pairsOk}
 use Rattle.ballot.specs.Item.{readKind, readItem, isItem, itemAt, allItems}
@@ -38,9 +38,9 @@ abbrev good : ℕ → Bool
 good n = taken n && (just n && clashes n)
 
 all-good : every 16 (λ k. good (k + 1)) ≡ true
-unfolding refusal headerOk headerSize fieldOf fieldsOk thresholdOk leastThreshold tablePairsOk pairsOk pairsFit startsAtEnd endBefore
-    itemBelow itemsOk allItems itemAt isItem
-    noTwins twinless newAt differ clashIn clash readItem readKind first every numberAt part sameBytes bit member weight
+unfolding refusal headerOk headerSize fieldOf weightIn peersWith pack weightsOk fieldsOk thresholdOk leastThreshold tablePairsOk pairsOk
+    pairsFit startsAtEnd endBefore itemBelow itemsOk allItems itemAt isItem noTwins twinless newAt differ clashIn clash readItem readKind
+    first every numberAt part sameBytes bit member weight
 all-good = refl
 
 read-back : (n : ℕ) → 1 ≤ n → thresholdOf (barelyBytes n) ≡ leastByTable n

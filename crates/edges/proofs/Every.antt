@@ -12,8 +12,11 @@ use Rattle.base.specs.Bytes.{between}
 use Rattle.base.specs.Refusals.{first}
 use Rattle.base.proofs.Truth.{either, split, is-false, iff, and-i, and-r}
 use Rattle.base.proofs.Bytes.{between-true}
-use Rattle.header.specs.Header.{peersOf, thresholdOf, headerOk}
-use Rattle.header.proofs.Ranges.{peers-range, threshold-range}
+use Rattle.header.specs.Season.{zeroThen}
+use Rattle.header.specs.Header.{peersOf, thresholdOf, totalWeight, headerOk}
+use Rattle.header.proofs.Seasons.{older, no-weights}
+use Rattle.header.proofs.Weighing.{total-counted}
+use Rattle.header.proofs.Ranges.{threshold-range}
 use Rattle.header.proofs.TwoThirds.{threshold-rule}
 use Rattle.ballot.specs.declared.item.Kind.{Kind}
 use Rattle.ballot.specs.declared.item.Kind.the-variants.{Vote, Audit, PlacedAudit, Cancellation}
@@ -26,18 +29,20 @@ use Rattle.ballot.proofs.Readings.{text-short}
 use Rattle.clash.specs.Clash.{kindsClash, itemsClash}
 use Rattle.edges.specs.Every.{EveryTable}
 
-above : (table : List ℕ) → headerOk table ≡ true → 2 * peersOf table < 3 * thresholdOf table
-above table ok =
-    let n = peers-range table ok in
-    threshold-rule (peersOf table) (thresholdOf table) (n .0) (n .1) (threshold-range table ok .0)
+above : (table : List ℕ) → headerOk table ≡ true → 2 * totalWeight table < 3 * thresholdOf table
+above table ok = threshold-rule (totalWeight table) (thresholdOf table) (threshold-range table ok .0)
 
 -- the header is judged first
 pub header-refused : (table : List ℕ) → headerOk table ≡ false → refusal table ≡ 1
 unfolding refusal first
 header-refused table bad = rw bad
 
-two-thirds-refused : (table : List ℕ) → 3 * thresholdOf table ≤ 2 * peersOf table → refusal table ≡ 1
+two-thirds-refused : (table : List ℕ) → 3 * thresholdOf table ≤ 2 * totalWeight table → refusal table ≡ 1
 two-thirds-refused table low = header-refused table (is-false (headerOk table) (λ ok. omega (arith, low, above table ok)))
+
+two-thirds-counted : (table : List ℕ) → zeroThen table 3 ≡ false → 3 * thresholdOf table ≤ 2 * peersOf table → refusal table ≡ 1
+two-thirds-counted table older-table low =
+    two-thirds-refused table (omega (arith, low, total-counted table (no-weights table (older table older-table))))
 
 -- the number of a reading that is good where a test holds
 good-number : (ok : Bool) (ballot : ℕ) (kind : Kind) → readingNumber (goodIf ok ballot kind) ≡ cond ok 0 3
@@ -137,6 +142,7 @@ apart a b k = is-false (itemsClash a b) (λ t. split (and-r (eqb (a .ballot) (b 
 pub every-table : EveryTable
 every-table = record {
   two-thirds = two-thirds-refused;
+  two-thirds-counted = two-thirds-counted;
   votes = λ audits text n k. vote-sizes audits text k;
   audits = λ text k. end-sizes Bare text Audit 0 (audit-read text Bare k);
   placed-audits = λ text k. end-sizes Placed text (PlacedAudit (placeOf text)) 1 (audit-read text Placed k);

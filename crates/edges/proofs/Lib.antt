@@ -1,10 +1,16 @@
 pub mod Table
 pub mod Every
 pub mod Peers
+pub mod Counted
 pub mod Threshold
 pub mod Bytes
 pub mod Premise
 pub mod Seasons
+pub mod Weights
+pub mod Shifted
+pub mod Unweighed
+pub mod AllOnes
+pub mod Weighted
 pub mod Worked
 pub mod Tests
 pub mod Hand

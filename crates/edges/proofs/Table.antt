@@ -5,7 +5,7 @@ use Rattle.base.specs.Below.{every}
 use Rattle.base.specs.Bits.{bit, member, pack}
 use Rattle.base.specs.Weight.{weight}
 use Rattle.base.specs.Bytes.{numberAt, part, sameBytes}
-use Rattle.header.specs.Header.{headerSize, fieldOf, leastThreshold, thresholdOk, fieldsOk, headerOk}
+use Rattle.header.specs.Header.{headerSize, fieldOf, weightIn, peersWith, leastThreshold, weightsOk, thresholdOk, fieldsOk, headerOk}
 use Rattle.pairs.specs.Pairs.{endBefore, startsAtEnd, pairsFit, pairsOk}
 use Rattle.ballot.specs.Item.{readKind, readItem, isItem, itemAt, allItems}
 use Rattle.twins.specs.Twins.{differ, newAt, twinless}
@@ -15,8 +15,9 @@ use Rattle.edges.specs.Marked.{TableEdges, TableCases}
 use Rattle.edges.specs.Seasons.{SeasonCases}
 
 pub table-edges : TableEdges
-unfolding refusal headerOk headerSize fieldOf fieldsOk thresholdOk leastThreshold tablePairsOk pairsOk pairsFit startsAtEnd endBefore
-    itemBelow itemsOk allItems itemAt isItem noTwins twinless newAt differ clash readItem readKind first every numberAt part sameBytes
+unfolding refusal headerOk headerSize fieldOf weightIn peersWith weightsOk fieldsOk thresholdOk leastThreshold tablePairsOk pairsOk
+    pairsFit startsAtEnd endBefore itemBelow itemsOk allItems itemAt isItem noTwins twinless newAt differ clash readItem readKind first
+    every weight numberAt part sameBytes
 table-edges =
     record {
       three-peers-threshold-2 = refl;
@@ -34,10 +35,9 @@ table-edges =
     }
 
 pub table-cases : TableCases
-unfolding refusal headerOk headerSize fieldOf fieldsOk thresholdOk leastThreshold tablePairsOk pairsOk pairsFit startsAtEnd endBefore
-    itemBelow itemsOk allItems itemAt isItem
-    noTwins twinless newAt differ clashMask clashIn clash readItem readKind first every numberAt part sameBytes bit
-    member pack weight
+unfolding refusal headerOk headerSize fieldOf weightIn peersWith weightsOk fieldsOk thresholdOk leastThreshold tablePairsOk pairsOk
+    pairsFit startsAtEnd endBefore itemBelow itemsOk allItems itemAt isItem noTwins twinless newAt differ clashMask clashIn clash readItem
+    readKind first every numberAt part sameBytes bit member pack weight
 table-cases =
     record {
       no-bytes = refl;
@@ -74,9 +74,9 @@ table-cases =
     }
 
 pub season-cases : SeasonCases
-unfolding refusal headerOk headerSize fieldOf fieldsOk thresholdOk leastThreshold tablePairsOk pairsOk pairsFit startsAtEnd endBefore
-    itemBelow itemsOk allItems itemAt isItem noTwins twinless newAt differ clashMask clashIn clash readItem readKind first every numberAt
-    part sameBytes bit member pack weight
+unfolding refusal headerOk headerSize fieldOf weightIn peersWith weightsOk fieldsOk thresholdOk leastThreshold tablePairsOk pairsOk
+    pairsFit startsAtEnd endBefore itemBelow itemsOk allItems itemAt isItem noTwins twinless newAt differ clashMask clashIn clash readItem
+    readKind first every numberAt part sameBytes bit member pack weight
 season-cases =
     record {
       eight-bytes = refl;
@@ -84,7 +84,7 @@ season-cases =
       two-bytes = refl;
       zero-zero = refl;
       zero-one = refl;
-      zero-three = refl;
+      zero-four = refl;
       two-then-two = refl;
       three-peers-threshold-2 = refl;
       three-peers-threshold-3 = refl;

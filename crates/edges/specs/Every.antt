@@ -6,7 +6,8 @@ use mathlib.Core.Path.{_≡_}
 use lib.Dec.{eqb}
 use lib.ListN.{length}
 use Rattle.base.specs.Bytes.{between}
-use Rattle.header.specs.Header.{peersOf, thresholdOf}
+use Rattle.header.specs.Season.{zeroThen}
+use Rattle.header.specs.Header.{peersOf, thresholdOf, totalWeight}
 use Rattle.ballot.specs.declared.item.Kind.the-variants.{Vote, Audit, Cancellation}
 use Rattle.ballot.specs.declared.item.Audits.{Audits}
 use Rattle.ballot.specs.declared.item.Audits.the-variants.{Bare, Placed, Either}
@@ -16,10 +17,13 @@ use Rattle.ballot.specs.Table.{refusal}
 use Rattle.clash.specs.Clash.{itemsClash}
 
 pub record EveryTable : Type 0 where
-  -- a threshold of two thirds of the peers, or of fewer, is refused with 1, whatever else the table says
-  pub two-thirds : (table : List ℕ) → 3 * thresholdOf table ≤ 2 * peersOf table → refusal table ≡ 1
+  -- a threshold of two thirds of what all peers weigh, or of less, is refused with 1, whatever else the table says; so
+  -- with peers that weigh 1 it is refused at two thirds of them
+  pub two-thirds : (table : List ℕ) → 3 * thresholdOf table ≤ 2 * totalWeight table → refusal table ≡ 1
+  pub two-thirds-counted : (table : List ℕ) → zeroThen table 3 ≡ false → 3 * thresholdOf table ≤ 2 * peersOf table
+      → refusal table ≡ 1
   -- a vote is taken exactly if it has 6 to 37 bytes, a cancellation if it has 5; an audit if it has 5 in tables of the
-  -- first season, 6 in those of the second, and either in a sheet
+  -- first season, 6 in those of later ones, and either in a sheet
   pub votes : (audits : Audits) (text : List ℕ) (n : ℕ) → kindByte text ≡ kindNumber (Vote n)
       → readingNumber (readItem audits text) ≡ cond (between 6 (length text) 37) 0 3
   pub audits : (text : List ℕ) → kindByte text ≡ kindNumber Audit

@@ -10,7 +10,7 @@ use Rattle.base.specs.Bytes.{byteAt, sameBytes, between}
 use Rattle.base.specs.Below.{every}
 use Rattle.base.specs.Refusals.{Refusals, header, pairs, item, twin, numbered, first}
 use Rattle.header.specs.declared.Head.{Head}
-use Rattle.header.specs.Header.{fieldsOk}
+use Rattle.header.specs.Header.{leastThreshold, noneAbove}
 use Rattle.pairs.specs.Pairs.{textOf, pairsOk}
 use Rattle.twins.specs.Twins.{twinless}
 use Rattle.ballot.specs.declared.item.Kind.{Kind}
@@ -44,8 +44,21 @@ periodsOf s = fieldOf s 4
 abbrev pub itemsOf : List ℕ → ℕ
 itemsOf s = fieldOf s 5
 
+-- of the three sets that the struct has now there was the honest one: nobody is even or heavy, and so each weighs 1
 abbrev pub headOf : List ℕ → Head
-headOf s = record { n = peersOf s; t = thresholdOf s; honest = honestOf s; periods = periodsOf s; items = itemsOf s }
+headOf s = record {
+  n = peersOf s;
+  t = thresholdOf s;
+  sets = honestOf s;
+  periods = periodsOf s;
+  items = itemsOf s;
+}
+
+abbrev pub thresholdOk : ℕ → ℕ → Bool
+thresholdOk n t = between 1 n 16 && between (leastThreshold n) t n
+
+abbrev pub fieldsOk : ℕ → ℕ → ℕ → ℕ → ℕ → Bool
+fieldsOk n t honest periods items = thresholdOk n t && (noneAbove n honest && (between 1 periods 8 && leb items 64))
 
 abbrev pub headerOk : List ℕ → Bool
 headerOk s =

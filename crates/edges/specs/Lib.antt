@@ -7,7 +7,10 @@ pub mod Worked
 pub mod Threshold
 pub mod Premise
 pub mod FirstSeason
+pub mod SecondSeason
 pub mod Seasons
+pub mod Weights
+pub mod Weighted
 pub mod Steps
 pub mod Exact
 pub mod Edges

@@ -1,12 +1,13 @@
 -- The rule of the least threshold beside document 01's constants: above two thirds, exact, headers judged as before.
 use Prim.Native.Nat.{ℕ, _-_, _*_, _≤_, _<_}
-use mathlib.Core.Bool.{Bool, _&&_}
+use mathlib.Core.Bool.{Bool, false, _&&_}
 use mathlib.Core.List.{List, [], _∷_}
 use mathlib.Core.Path.{_≡_}
 use mathlib.Core.Logic.{_↔_}
 use lib.Dec.{leb}
 use lib.ListN.{length, getD}
 use Rattle.base.specs.Bytes.{between}
+use Rattle.header.specs.Season.{zeroThen}
 use Rattle.header.specs.Header.{headerSize, peersOf, thresholdOf, honestOf, periodsOf, itemsOf}
 use Rattle.header.specs.Header.{leastThreshold, noneAbove, headerOk}
 
@@ -33,11 +34,11 @@ headerByTable s =
     && fieldsByTable (peersOf s) (thresholdOf s) (honestOf s) (periodsOf s) (itemsOf s)
 
 pub record ThresholdEdges : Type 0 where
-  -- however many peers there are, the least threshold is above two thirds of them
-  pub above : (n : ℕ) → 2 * n < 3 * leastThreshold n
-  -- and it is exact: the numbers above two thirds of them are those from it on
-  pub exact : (n t : ℕ) → 2 * n < 3 * t ↔ leastThreshold n ≤ t
-  -- of 1 to 16 peers it is document 01's number
+  -- whatever all peers weigh, the least threshold is above two thirds of it
+  pub above : (w : ℕ) → 2 * w < 3 * leastThreshold w
+  -- and it is exact: the numbers above two thirds of it are those from it on
+  pub exact : (w t : ℕ) → 2 * w < 3 * t ↔ leastThreshold w ≤ t
+  -- of 1 to 16 peers that weigh 1 it is document 01's number
   pub constants : (n : ℕ) → 1 ≤ n → n ≤ 16 → leastThreshold n ≡ leastByTable n
-  -- so every header is judged as it was, whatever its bytes
-  pub same-header : (s : List ℕ) → headerOk s ≡ headerByTable s
+  -- so every header without weights is judged as it was, whatever its bytes
+  pub same-header : (s : List ℕ) → zeroThen s 3 ≡ false → headerOk s ≡ headerByTable s

@@ -4,7 +4,8 @@ use mathlib.Core.Bool.{Bool, true, false, cond}
 use mathlib.Core.List.{List, [], _∷_, _++_}
 use mathlib.Core.Path.{_≡_}
 use lib.Dec.{eqb}
-use Rattle.rules.specs.Table.{Table, weigh}
+use Rattle.base.specs.Weight.{weight, ones}
+use Rattle.rules.specs.Table.{Table}
 use Rattle.rules.specs.Bag.{boardsIn}
 use Rattle.rules.specs.Ideal.{ideal}
 use Rattle.rules.specs.Run.{Engine, after, answersFrom, byRules, run}
@@ -22,10 +23,10 @@ each (suc n) f = each n f ++ f n
 abbrev pub receiptsIn : Table → (ℕ → ℕ → Bool) → List (ℕ × ℕ)
 receiptsIn T receipted = each (T .periods) (λ p. each (T .items) (λ x. cond (receipted p x) ((p, x) ∷ []) []))
 
--- the databases: peer, period, item, number of signers; empty sets are left out
+-- the databases: peer, period, item, number of signers, whatever they weigh; empty sets are left out
 abbrev pub signersIn : Table → (ℕ → ℕ → ℕ → ℕ → Bool) → List (ℕ × ℕ × ℕ × ℕ)
 signersIn T db = each (T .n) (λ i. each (T .periods) (λ p. each (T .items) (λ x.
-    let v = weigh T (db (i + 1) p x) in cond (eqb v 0) [] ((i + 1, p, x, v) ∷ []))))
+    let v = weight ones (T .n) (db (i + 1) p x) in cond (eqb v 0) [] ((i + 1, p, x, v) ∷ []))))
 
 -- how a run of an engine ends: every call has its answer, and the databases, receipts and boards (period, number) are
 -- what a report lists

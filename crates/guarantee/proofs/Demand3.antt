@@ -1,21 +1,25 @@
--- Demand 3, over table bytes and lists of byte lists: for every table that is taken and has at least t honest peers.
+-- Demand 3, over table bytes and lists of byte lists: for every table that is taken and has honest weight of at least t.
 use Prim.Native.Nat.{ℕ, _≤_}
+use native.Mathlib.Omega.{arith}
 use mathlib.Core.List.{List}
 use mathlib.Core.Path.{_≡_, refl, sym}
-use Rattle.header.specs.Header.{headOf, thresholdOf, honestCount}
-use Rattle.header.specs.Quorum.{weightOf}
+use Rattle.base.specs.Weight.{all}
+use Rattle.header.specs.Header.{headOf, thresholdOf, totalWeight}
+use Rattle.header.specs.Quorum.{honestWeight}
 use Rattle.ballot.specs.Table.{refusal}
 use Rattle.clash.specs.Clash.{clashIn}
 use Rattle.clash.proofs.Relation.{clash-in-sym, clash-in-self}
 use Rattle.ballot.proofs.Sound.{sound}
+use Rattle.rules.specs.Table.{weigh}
 use Rattle.rules.specs.Follows.{Follows}
 use Rattle.rules.specs.Demand3.{Premise}
-use Rattle.rules.proofs.Demand3.{demand-3, counted}
+use Rattle.rules.proofs.Demand3.{demand-3}
 use Rattle.view.specs.Ready.{Ready}
 use Rattle.engine.specs.Engine.{rulesTable}
 use Rattle.engine.proofs.Calls.{room-of}
 use Rattle.engine.proofs.Start.{fresh-state, fresh-ready}
 use Rattle.engine.proofs.Steps.{step-answers, step-leaves}
+use Rattle.edges.proofs.Weights.{weights-taken}
 use Rattle.guarantee.specs.Demand3.{HonestEnough, byBytes, AlwaysSafe}
 
 module _ (table : List ℕ) (fit : refusal table ≡ 0) where
@@ -30,9 +34,17 @@ module _ (table : List ℕ) (fit : refusal table ≡ 0) where
     stays-ready = λ s R c. step-leaves table fit s R c .ready;
   }
 
-  pub premise : thresholdOf table ≤ honestCount (headOf table) → Premise (rulesTable table)
-  unfolding weightOf
-  premise enough = counted (rulesTable table) refl (sound table fit .threshold-rule) enough (clash-in-sym table) (clash-in-self table)
+  -- all peers weigh W
+  pub total-weighed : weigh (rulesTable table) all ≡ totalWeight table
+  total-weighed = weights-taken table fit .total
+
+  pub premise : thresholdOf table ≤ honestWeight (headOf table) → Premise (rulesTable table)
+  premise enough = record {
+    threshold = omega (arith, total-weighed, sound table fit .threshold-rule);
+    honest-enough = enough;
+    symmetric = clash-in-sym table;
+    never-itself = clash-in-self table;
+  }
 
 pub demand-3-on-bytes : (table : List ℕ) → HonestEnough table → AlwaysSafe table
 demand-3-on-bytes table H = demand-3 (bytes-follow table (H .taken)) (premise table (H .taken) (H .honest))

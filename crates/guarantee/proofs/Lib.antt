@@ -2,6 +2,7 @@ pub mod Demand3
 pub mod Liveness
 pub mod Rehearsals
 pub mod Once
+pub mod Counted
 pub mod Totals
 pub mod Sheets
 pub mod TotalsWorked

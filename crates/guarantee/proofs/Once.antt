@@ -1,5 +1,6 @@
 -- An honest peer's receipt shares on one item are of one period: over table bytes and lists of byte lists, for every
--- table, a refused one too. Where at least t peers are honest no item has receipts in two periods, nor lines in a report.
+-- table, a refused one too. Where the honest peers weigh at least t no item has receipts in two periods, nor lines in a
+-- report.
 use Prim.Native.Nat.{ℕ, _≤_}
 use native.Mathlib.Decide.{ℕ-discrete}
 use native.Mathlib.Omega.{arith}
@@ -7,7 +8,8 @@ use mathlib.Core.List.{List, [], _∷_, _++_}
 use mathlib.Core.Path.{_≡_, refl, sym, ap, subst, _∙_}
 use borrow.Author.Tests.{ne-eqb}
 use Rattle.base.proofs.Truth.{false-true}
-use Rattle.header.specs.Header.{headOf, thresholdOf, honestCount}
+use Rattle.header.specs.Header.{headOf, thresholdOf}
+use Rattle.header.specs.Quorum.{honestWeight}
 use Rattle.ballot.specs.Table.{refusal}
 use Rattle.rules.specs.Form.{read}
 use Rattle.rules.specs.Ideal.{Fed}
@@ -101,7 +103,7 @@ module _ (input : List ℕ) (fit : inputRefusal input ≡ 0) where
         (held-shown (headOf table) held none (totalsOfInput input) p x (cell .0) (cell .1) (same p x ∙ e));
   }
 
-  pub shown-once : thresholdOf table ≤ honestCount (headOf table) → ShownOnce input
+  pub shown-once : thresholdOf table ≤ honestWeight (headOf table) → ShownOnce input
   shown-once enough p q x a b =
       receipts-once table (record { taken = taken input fit .table; honest = enough }) (callsIn input) p q x
       (receipts-shown .held p x a) (receipts-shown .held q x b)

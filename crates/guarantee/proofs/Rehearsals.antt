@@ -1,9 +1,10 @@
--- Demand 3 of what a report shows: for every input that is not refused and whose table has at least t honest peers.
+-- Demand 3 of what a report shows: for every input that is not refused and whose table has honest weight of at least t.
 use Prim.Native.Nat.{ℕ, zero, suc, _+_, _≤_}
 use native.Mathlib.Omega.{arith}
 use mathlib.Core.List.{List, []}
 use mathlib.Core.Path.{_≡_, sym, ap, ap₂, _∙_}
-use Rattle.header.specs.Header.{headOf, thresholdOf, honestCount}
+use Rattle.header.specs.Header.{headOf, thresholdOf}
+use Rattle.header.specs.Quorum.{honestWeight}
 use Rattle.rules.specs.Form.{read}
 use Rattle.rules.specs.Ideal.{Fed}
 use Rattle.rules.specs.Run.{World, seenWith, runFrom, after}
@@ -50,7 +51,7 @@ module _ (input : List ℕ) where
       ∙ leads (stepCount input) 0 []
       ∙ ap (λ (i : ℕ). stateOf (contents (stateAt input i))) {x = stepCount input + 0} {y = stepCount input} (omega arith))
 
-  pub demand-3-shown : inputRefusal input ≡ 0 → thresholdOf table ≤ honestCount (headOf table) → ShownSafe input
+  pub demand-3-shown : inputRefusal input ≡ 0 → thresholdOf table ≤ honestWeight (headOf table) → ShownSafe input
   demand-3-shown fit enough = record {
     shown = shown;
     safe = demand-3-on-bytes table (record { taken = taken input fit .table; honest = enough }) (callsIn input);

@@ -5,7 +5,8 @@ use mathlib.Core.List.{List, [], _∷_}
 use mathlib.Core.Path.{_≡_, refl, sym, ap, _∙_}
 use lib.Dec.{eqb}
 use Rattle.base.proofs.Truth.{false-true, or-r, eqb-self, eqb-sym}
-use Rattle.header.specs.Header.{headOf, thresholdOf, honestCount, itemsOf}
+use Rattle.header.specs.Header.{headOf, thresholdOf, itemsOf}
+use Rattle.header.specs.Quorum.{honestWeight}
 use Rattle.rules.specs.Bag.{boardsIn}
 use Rattle.rules.specs.Ideal.{isThere, hasBoard, onBoard}
 use Rattle.state.specs.Contents.{contents}
@@ -39,7 +40,7 @@ first-there (b ∷ boards) p has = go (eqb (b .0) p) refl has (first-there board
     go false e t later = or-r (eqb p (b .0) && eqb (firstBoard boards p) (b .1)) _ (later t)
 
 module _ (program : List ℕ) (zero : hangAnswer program ≡ 0)
-    (enough : thresholdOf (tableIn (rehearsalIn program)) ≤ honestCount (headOf (tableIn (rehearsalIn program)))) where
+    (enough : thresholdOf (tableIn (rehearsalIn program)) ≤ honestWeight (headOf (tableIn (rehearsalIn program)))) where
   abbrev input : List ℕ
   input = rehearsalIn program
 

@@ -9,7 +9,7 @@ use Rattle.base.specs.Refusals.{first}
 use Rattle.base.specs.Sets.{add1, add2, add3, add4, setAt}
 use Rattle.base.specs.Tab.{tab}
 use Rattle.base.specs.Weight.{weight}
-use Rattle.header.specs.Header.{headerSize, fieldOf, leastThreshold, thresholdOk, fieldsOk, headerOk}
+use Rattle.header.specs.Header.{headerSize, fieldOf, weightIn, peersWith, leastThreshold, weightsOk, thresholdOk, fieldsOk, headerOk}
 use Rattle.header.specs.Quorum.{weightOf}
 use Rattle.pairs.specs.Pairs.{endBefore, startsAtEnd, pairsFit, pairsOk}
 use Rattle.ballot.specs.Item.{readKind, readItem, isItem, itemAt, allItems}
@@ -48,10 +48,10 @@ pub record Computed : Type 0 where
   pub answers : answersFrom (byRules (rulesTable noneHonest)) fresh (calls anything) ≡ due anything
 
 computed : Computed
-unfolding headerSize fieldOf weightOf first any every bit member pack numberAt part sameBytes readItem readKind clashIn clash add1 add2
-    add3 add4 setAt weight clashing sameEntry isIn enter isFull boardsIn allZero formed select ops laterOps read boardFrom addRows rule
-    answer next reply leave isThere deed deedOf backingNamed seenWith runFrom after answersFrom postsWith receiptsWith boardsWith
-    postsMade receiptsMade boardsMade sum howMany receiptCount itemsOn totalsIn
+unfolding headerSize fieldOf weightIn peersWith weightOf first any every bit member pack numberAt part sameBytes readItem readKind clashIn
+    clash add1 add2 add3 add4 setAt weight clashing sameEntry isIn enter isFull boardsIn allZero formed select ops laterOps read boardFrom
+    addRows rule answer next reply leave isThere deed deedOf backingNamed seenWith runFrom after answersFrom postsWith receiptsWith
+    boardsWith postsMade receiptsMade boardsMade sum howMany receiptCount itemsOn totalsIn
 computed = record { case-r = refl; none-honest = refl; answers = refl }
 
 -- the input of case R: its table, its calls, and that it is taken
@@ -63,10 +63,9 @@ pub record Input : Type 0 where
   pub steps : callsIn inputR ≡ calls caseR
 
 pub input : Input
-unfolding inputRefusal tableIn tableThere stepCount callAt tab refusal headerOk headerSize fieldOf fieldsOk thresholdOk leastThreshold
-    tablePairsOk pairsOk pairsFit startsAtEnd endBefore itemBelow itemsOk allItems itemAt isItem
-    noTwins twinless newAt differ readItem readKind first every
-    numberAt part sameBytes
+unfolding inputRefusal tableIn tableThere stepCount callAt tab refusal headerOk headerSize fieldOf weightIn weightsOk fieldsOk thresholdOk
+    leastThreshold tablePairsOk pairsOk pairsFit startsAtEnd endBefore itemBelow itemsOk allItems itemAt isItem noTwins twinless newAt
+    differ readItem readKind first every numberAt part sameBytes weight
 input = record { case-r-taken = refl; none-honest-taken = refl; taken = refl; table = refl; steps = refl }
 
 -- so it is on the bytes

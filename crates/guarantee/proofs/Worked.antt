@@ -1,20 +1,22 @@
 -- Demand 3 of the bytes is not empty: the tables are those of edges, and the runs are computed by the rules, which the
 -- engine on bytes follows.
-use Prim.Native.Nat.{ℕ}
+use Prim.Native.Nat.{ℕ, _≤_}
 use native.Mathlib.Omega.{arith}
-use mathlib.Core.Bool.{true}
+use mathlib.Core.Bool.{true, false}
 use mathlib.Core.List.{List, [], _∷_}
-use mathlib.Core.Path.{refl}
+use mathlib.Core.Path.{_≡_, refl}
 use Rattle.base.specs.Below.{any, every}
 use Rattle.base.specs.Bits.{bit, member, pack}
 use Rattle.base.specs.Bytes.{numberAt, part, sameBytes}
 use Rattle.base.specs.Refusals.{first}
 use Rattle.base.specs.Sets.{add1, add2, add3, add4, setAt}
 use Rattle.base.specs.Weight.{weight}
-use Rattle.header.specs.Header.{headerSize, fieldOf}
+use Rattle.header.specs.Season.{zeroThen}
+use Rattle.header.specs.Header.{headerSize, fieldOf, weightIn, peersWith, headOf, thresholdOf, honestCount}
 use Rattle.header.specs.Quorum.{weightOf}
+use Rattle.header.proofs.Seasons.{not-zero}
 use Rattle.ballot.specs.Item.{readKind, readItem}
-use Rattle.ballot.specs.Table.{itemBelow}
+use Rattle.ballot.specs.Table.{itemBelow, refusal}
 use Rattle.clash.specs.Clash.{clash, clashIn}
 use Rattle.rules.specs.Table.{clashing}
 use Rattle.rules.specs.Bag.{sameEntry, isIn, enter, isFull, boardsIn}
@@ -29,21 +31,33 @@ use Rattle.edges.specs.Premise.{barelyBytes}
 use Rattle.edges.specs.Seasons.{twoPlaces}
 use Rattle.edges.specs.Cases.{Worked, caseR, twoFaced}
 use Rattle.edges.specs.TwoDays.{slipTable, slipOnTwoDays}
+use Rattle.edges.specs.Weighted.{carryTable, weightsCarry}
 use Rattle.edges.specs.Worked.{RulesEnd, RulesIdeally}
 use Rattle.edges.proofs.Table.{table-cases, season-cases}
+use Rattle.edges.proofs.Weighted.{weight-cases}
 use Rattle.edges.proofs.Premise.{premise-edges}
 use Rattle.edges.proofs.Worked.{follower-ends, follower-ideally}
 use Rattle.guarantee.specs.Demand3.{HonestEnough}
 use Rattle.guarantee.specs.Worked.{BytesMeet, RunsTo, BytesRun}
 use Rattle.guarantee.proofs.Demand3.{bytes-follow}
+use Rattle.guarantee.proofs.Counted.{enough}
+
+-- as many honest peers as t, in a table without weights
+counted-met : (table : List ℕ) → refusal table ≡ 0 → zeroThen table 3 ≡ false → thresholdOf table ≤ honestCount (headOf table)
+    → HonestEnough table
+counted-met table taken older honest = enough table (record { taken = taken; older = older; honest = honest })
 
 pub bytes-meet : BytesMeet
 unfolding fieldOf
 bytes-meet = record {
-  barely-met = λ n l m. let b = premise-edges .met-by-bytes n l m in record { taken = b .taken; honest = omega (arith, b .just-enough) };
-  case-r-met = record { taken = table-cases .case-R-taken; honest = omega (arith, table-cases .case-R-honest) };
-  places-met = record { taken = season-cases .two-places; honest = omega (arith, season-cases .three-honest) };
-  slip-met = record { taken = table-cases .slip-taken; honest = omega (arith, table-cases .slip-honest) };
+  barely-met = λ n l m.
+      let b = premise-edges .met-by-bytes n l m in
+      counted-met (barelyBytes n) (b .taken) (not-zero (barelyBytes n) 3 (λ e. omega (arith, e, l))) (omega (arith, b .just-enough));
+  case-r-met = counted-met tables.caseR (table-cases .case-R-taken) refl (omega (arith, table-cases .case-R-honest));
+  places-met = counted-met twoPlaces (season-cases .two-places) refl (omega (arith, season-cases .three-honest));
+  slip-met = counted-met slipTable (table-cases .slip-taken) refl (omega (arith, table-cases .slip-honest));
+  carry-met = record { taken = weight-cases .carry-taken; honest = omega (arith, weight-cases .all-honest) };
+  two-carry-met = record { taken = weight-cases .two-taken; honest = omega (arith, weight-cases .two-honest) };
 }
 
 -- the runs, by the rules of the byte tables
@@ -61,13 +75,15 @@ pub record Computed : Type 0 where
       ((1, 0, 0, 3) ∷ (1, 1, 0, 3) ∷ (1, 1, 1, 3) ∷ (2, 0, 0, 3) ∷ (2, 1, 0, 3) ∷ (2, 1, 1, 3)
       ∷ (3, 0, 0, 3) ∷ (3, 1, 0, 3) ∷ (3, 1, 1, 3) ∷ [])
       ((0, 0) ∷ (1, 1) ∷ []) ((0, 1) ∷ (1, 3) ∷ [])
+  pub weights-carry : ByRules (carryTable 15) weightsCarry
+      ((1, 0, 0, 2) ∷ (2, 0, 0, 2) ∷ (2, 0, 1, 3) ∷ (3, 0, 0, 2) ∷ (3, 0, 1, 3) ∷ (4, 0, 0, 2) ∷ (4, 0, 1, 3) ∷ [])
+      ((0, 0) ∷ []) ((0, 1) ∷ [])
 
 computed : Computed
-unfolding headerSize fieldOf weightOf first any every bit member pack numberAt part sameBytes readItem readKind itemBelow clashIn clash
-    add1 add2 add3 add4
-    setAt weight clashing sameEntry isIn enter isFull boardsIn allZero formed select ops laterOps read boardFrom addRows rule answer next
-    reply leave isThere hasBoard onBoard mayReceive mayReceipt mayPublish nowEnough move feed ideal deed deedOf backingNamed seenWith
-    runFrom after answersFrom
+unfolding headerSize fieldOf weightIn peersWith weightOf first any every bit member pack numberAt part sameBytes readItem readKind
+    itemBelow clashIn clash add1 add2 add3 add4 setAt weight clashing sameEntry isIn enter isFull boardsIn allZero formed select ops
+    laterOps read boardFrom addRows rule answer next reply leave isThere hasBoard onBoard mayReceive mayReceipt mayPublish nowEnough move
+    feed ideal deed deedOf backingNamed seenWith runFrom after answersFrom
 computed = record {
   case-r = record {
     ends = record { answered = refl; signed = refl; receipted = refl; published = refl };
@@ -82,6 +98,10 @@ computed = record {
     ideally = record { receipted = refl; published = refl; allowed = refl };
   };
   slip-on-two-days = record {
+    ends = record { answered = refl; signed = refl; receipted = refl; published = refl };
+    ideally = record { receipted = refl; published = refl; allowed = refl };
+  };
+  weights-carry = record {
     ends = record { answered = refl; signed = refl; receipted = refl; published = refl };
     ideally = record { receipted = refl; published = refl; allowed = refl };
   };
@@ -100,4 +120,5 @@ bytes-run = record {
   two-faced = on-bytes (bytes-meet .barely-met 4 (omega arith) (omega arith)) (computed .two-faced);
   two-places = on-bytes (bytes-meet .places-met) (computed .two-places);
   slip-on-two-days = on-bytes (bytes-meet .slip-met) (computed .slip-on-two-days);
+  weights-carry = on-bytes (bytes-meet .carry-met) (computed .weights-carry);
 }

@@ -2,7 +2,8 @@
 use Prim.Native.Nat.{ℕ, _≤_}
 use mathlib.Core.List.{List}
 use mathlib.Core.Path.{_≡_}
-use Rattle.header.specs.Header.{headOf, thresholdOf, honestCount}
+use Rattle.header.specs.Header.{headOf, thresholdOf}
+use Rattle.header.specs.Quorum.{honestWeight}
 use Rattle.ballot.specs.Table.{refusal}
 use Rattle.rules.specs.Run.{World, Engine, after}
 use Rattle.rules.specs.Demand3.{Safe}
@@ -10,10 +11,10 @@ use Rattle.state.specs.Contents.{contents}
 use Rattle.view.specs.View.{stateOf}
 use Rattle.engine.specs.Engine.{rulesTable, stepAnswer, stepBytes, freshState}
 
--- the table is taken, and at least t of its peers are honest
+-- the table is taken, and its honest peers weigh at least t
 pub record HonestEnough (table : List ℕ) : Type 0 where
   pub taken : refusal table ≡ 0
-  pub honest : thresholdOf table ≤ honestCount (headOf table)
+  pub honest : thresholdOf table ≤ honestWeight (headOf table)
 
 -- the engine on bytes, of one table: its store is the state buffer
 abbrev pub byBytes : List ℕ → Engine (List ℕ)

@@ -2,7 +2,8 @@
 use Prim.Native.Nat.{ℕ}
 use mathlib.Core.List.{List}
 use mathlib.Core.Path.{_≡_}
-use Rattle.header.specs.Header.{headOf, peersOf, honestCount}
+use Rattle.header.specs.Header.{headOf, totalWeight}
+use Rattle.header.specs.Quorum.{honestWeight}
 use Rattle.ballot.specs.Table.{refusal}
 use Rattle.engine.specs.Engine.{rulesTable}
 use Rattle.liveness.specs.Places.{Behaviour, behaviour}
@@ -10,10 +11,10 @@ use Rattle.liveness.specs.Through.{AlwaysThrough}
 use Rattle.liveness.specs.Schedule.{CanClose, MadeOfBytes}
 use Rattle.guarantee.specs.Demand3.{byBytes}
 
--- the table is taken, and all of its peers are honest
+-- the table is taken, and all of its peers are honest: the honest ones weigh as much as all
 pub record NoneDishonest (table : List ℕ) : Type 0 where
   pub taken : refusal table ≡ 0
-  pub honest : honestCount (headOf table) ≡ peersOf table
+  pub honest : honestWeight (headOf table) ≡ totalWeight table
 
 -- what those outside see of the engine on bytes, from the fresh state: what the buffer holds after a list of calls, and
 -- the answer of `step` to the next

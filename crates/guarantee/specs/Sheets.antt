@@ -1,5 +1,5 @@
--- What hangs in the hall: where at least t peers are honest, the sheet that the program `sheet` writes has the ideal
--- board's items of the period, and whoever has a receipt of the period finds the item on it.
+-- What hangs in the hall: where the honest peers weigh at least t, the sheet that the program `sheet` writes has the
+-- ideal board's items of the period, and whoever has a receipt of the period finds the item on it.
 use Prim.Native.Nat.{ℕ, _<_}
 use mathlib.Core.Bool.{true}
 use mathlib.Core.List.{List}

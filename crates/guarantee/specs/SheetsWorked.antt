@@ -2,7 +2,8 @@
 use Prim.Native.Nat.{_≤_}
 use mathlib.Core.List.{_∷_}
 use mathlib.Core.Path.{_≡_}
-use Rattle.header.specs.Header.{headOf, thresholdOf, honestCount}
+use Rattle.header.specs.Header.{headOf, thresholdOf}
+use Rattle.header.specs.Quorum.{honestWeight}
 use Rattle.report.specs.Lines.{refusedLine}
 use Rattle.rehearsal.specs.Rehearsal.{lastState}
 use Rattle.sheets.specs.Cases.{sheetR}
@@ -15,7 +16,7 @@ use Rattle.guarantee.specs.TotalsWorked.{inputR}
 pub record SheetsWorked : Type 0 where
   -- period 0 has the one board: its sheet
   pub taken : hangAnswer (0 ∷ inputR) ≡ 0
-  pub honest : thresholdOf tables.caseR ≤ honestCount (headOf tables.caseR)
+  pub honest : thresholdOf tables.caseR ≤ honestWeight (headOf tables.caseR)
   pub hangs : hung (0 ∷ inputR) ≡ sheetR
   -- the table has one period
   pub no-period : hung (1 ∷ inputR) ≡ refusedLine 6

@@ -8,6 +8,7 @@ use Rattle.edges.specs.Premise.{barelyBytes}
 use Rattle.edges.specs.Seasons.{twoPlaces}
 use Rattle.edges.specs.Cases.{Worked, caseR, twoFaced}
 use Rattle.edges.specs.TwoDays.{slipTable, slipOnTwoDays}
+use Rattle.edges.specs.Weighted.{carryTable, weightsCarry}
 use Rattle.edges.specs.Worked.{Ends, Ideally}
 use Rattle.guarantee.specs.Demand3.{HonestEnough, byBytes}
 
@@ -20,6 +21,9 @@ pub record BytesMeet : Type 0 where
   pub places-met : HonestEnough twoPlaces
   -- and one of three periods
   pub slip-met : HonestEnough slipTable
+  -- and tables of weights, with fewer honest peers than t: four of them, and two
+  pub carry-met : HonestEnough (carryTable 15)
+  pub two-carry-met : HonestEnough (carryTable 3)
 
 -- a run of the engine on bytes: its answers, what a report of it lists, and the ideal board beside it, with each move
 -- allowed
@@ -42,3 +46,7 @@ pub record BytesRun : Type 0 where
       ((1, 0, 0, 3) ∷ (1, 1, 0, 3) ∷ (1, 1, 1, 3) ∷ (2, 0, 0, 3) ∷ (2, 1, 0, 3) ∷ (2, 1, 1, 3)
       ∷ (3, 0, 0, 3) ∷ (3, 1, 0, 3) ∷ (3, 1, 1, 3) ∷ [])
       ((0, 0) ∷ (1, 1) ∷ []) ((0, 1) ∷ (1, 3) ∷ [])
+  -- peers of weights 4, 1, 1 and 1 with threshold 5: two of them carry a vote, three do not carry an audit
+  pub weights-carry : RunsTo (carryTable 15) weightsCarry
+      ((1, 0, 0, 2) ∷ (2, 0, 0, 2) ∷ (2, 0, 1, 3) ∷ (3, 0, 0, 2) ∷ (3, 0, 1, 3) ∷ (4, 0, 0, 2) ∷ (4, 0, 1, 3) ∷ [])
+      ((0, 0) ∷ []) ((0, 1) ∷ [])

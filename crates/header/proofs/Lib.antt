@@ -2,4 +2,5 @@ pub mod Fields
 pub mod TwoThirds
 pub mod Ranges
 pub mod Seasons
+pub mod Weighing
 pub mod Reach

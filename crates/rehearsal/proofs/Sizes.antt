@@ -77,7 +77,7 @@ module _ (input : List ℕ) (T : Taken input) where
   first-line-most =
       let S = sound table (T .table) in
       head-most (peersOf table) (thresholdOf table) (honestCount (headOf table)) (omega (arith, S .peers-most))
-      (omega (arith, S .peers-most, S .threshold-most))
+      (omega (arith, S .total-most, S .threshold-most))
       (omega (arith, S .peers-most, honest-most (headOf table)))
 
   report-most : length (reportOf input) ≤ reportMost

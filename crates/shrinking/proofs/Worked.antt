@@ -10,7 +10,7 @@ use Rattle.base.specs.Bytes.{numberAt, part, sameBytes}
 use Rattle.base.specs.Refusals.{first}
 use Rattle.base.specs.Sets.{add1, add2, add3, add4, setAt}
 use Rattle.base.specs.Weight.{weight}
-use Rattle.header.specs.Header.{headerSize, fieldOf, leastThreshold, thresholdOk, fieldsOk, headerOk}
+use Rattle.header.specs.Header.{headerSize, fieldOf, weightIn, peersWith, leastThreshold, weightsOk, thresholdOk, fieldsOk, headerOk}
 use Rattle.header.specs.Quorum.{weightOf}
 use Rattle.pairs.specs.Pairs.{endBefore, startsAtEnd, pairsFit, pairsOk}
 use Rattle.twins.specs.Twins.{differ, newAt, twinless}
@@ -55,9 +55,9 @@ pub record Inputs : Type 0 where
   pub no-table : inputRefusal [] ≡ 1
 
 inputs : Inputs
-unfolding inputRefusal tableIn tableThere stepCount refusal headerOk headerSize fieldOf fieldsOk thresholdOk leastThreshold tablePairsOk
-    pairsOk pairsFit startsAtEnd endBefore itemBelow itemsOk allItems itemAt isItem noTwins twinless newAt differ readItem readKind first
-    every numberAt part sameBytes
+unfolding inputRefusal tableIn tableThere stepCount refusal headerOk headerSize fieldOf weightIn weightsOk fieldsOk thresholdOk
+    leastThreshold tablePairsOk pairsOk pairsFit startsAtEnd endBefore itemBelow itemsOk allItems itemAt isItem noTwins twinless newAt
+    differ readItem readKind first every numberAt part sameBytes weight
 inputs = record {
   late-share = (refl, refl, refl);
   case-r = (refl, refl, refl);
@@ -75,9 +75,9 @@ pub record Computed : Type 0 where
 
 computed : Computed
 unfolding tableIn stepCount callAt headerSize fieldOf itemBelow readItem readKind first any every bit member pack numberAt part sameBytes
-    clashIn clash weightOf weight add1 add2 add3 add4 setAt clashing sameEntry isIn enter isFull allZero formed select ops laterOps read
-    boardFrom addRows rule answer next reply leave storeFrom without lost keptCalls spare tried triedBelow passes left lastAnswer each
-    spelled decimal field refusedLine numberLine keptLine endBefore
+    clashIn clash weightIn peersWith weightOf weight add1 add2 add3 add4 setAt clashing sameEntry isIn enter isFull allZero formed select
+    ops laterOps read boardFrom addRows rule answer next reply leave storeFrom without lost keptCalls spare tried triedBelow passes left
+    lastAnswer each spelled decimal field refusedLine numberLine keptLine endBefore
 computed = record { last-refused = refl; last-taken = refl; printed = refl; clean-line = refl; header-line = refl }
 
 -- so it is on the bytes

@@ -1,19 +1,14 @@
 -- The fields are judged in the definition's order: those before the one that fails hold.
-use mathlib.Core.Path.{refl, sym, _∙_}
+use mathlib.Core.Path.{refl}
 use borrow.Author.Needs.{needs}
-use borrow.Author.Tests.{not-false}
 use Rattle.header.specs.Header.{fieldsOk}
 use Rattle.base.proofs.Returns.{fails, holds}
-use Rattle.header.proofs.Fields.{peers-most}
 use Rattle.header.proofs.fields_ok.Statement.{statement}
 use Rattle.header.proofs.fields_ok.Tie as tie
 
 returns : tie.Need-returns
 unfolding fieldsOk
 returns c = fails _ (c .before .threshold-ok .ensures) (c .if1 .taken)
-
-none-above-requires : tie.Need-none-above-requires
-none-above-requires c κs = peers-most _ _ (sym (c .before .threshold-ok .ensures) ∙ not-false _ (c .if1 .left))
 
 returns-2 : tie.Need-returns-2
 unfolding fieldsOk
@@ -46,7 +41,7 @@ fields-ok-spec =
     (tie.spec
     (λ c κs. search needs)
     returns
-    none-above-requires
+    (λ c κs. search needs)
     returns-2
     (λ c κs. search needs)
     returns-3
