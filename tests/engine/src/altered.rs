@@ -1,14 +1,12 @@
 //! Tables and sheets with other texts for their items: by these, engines go wrong
 //! on purpose, and each must be found.
 
-use inputs::tables::{head, number, pair_behind};
-use reference::season::Season;
+use inputs::tables::{head, item_count, number, pair_behind};
+use reference::pairs::write_pairs;
 use reference::sheet::write_sheet;
-use reference::table::write_table_of;
 
-/// The texts that the pairs behind a head mark out; none if these are no pairs.
-fn texts(bytes: &[u8], head: usize) -> Option<Vec<Vec<u8>>> {
-    let count = *bytes.get(head - 1)? as usize;
+/// The texts that so many pairs behind a head mark out; none if these are no pairs.
+fn texts(bytes: &[u8], head: usize, count: usize) -> Option<Vec<Vec<u8>>> {
     let text = |k| {
         let at = pair_behind(head, k);
         let pair = bytes.get(at..at + 4)?;
@@ -19,8 +17,13 @@ fn texts(bytes: &[u8], head: usize) -> Option<Vec<Vec<u8>>> {
 }
 
 /// The same with some of them altered; none if no text is another then.
-fn altered(bytes: &[u8], head: usize, alter: impl Fn(&mut Vec<u8>)) -> Option<Vec<Vec<u8>>> {
-    let old = texts(bytes, head)?;
+fn altered(
+    bytes: &[u8],
+    head: usize,
+    count: usize,
+    alter: impl Fn(&mut Vec<u8>),
+) -> Option<Vec<Vec<u8>>> {
+    let old = texts(bytes, head, count)?;
     let mut new = old.clone();
     new.iter_mut().for_each(alter);
     (new != old).then_some(new)
@@ -28,18 +31,17 @@ fn altered(bytes: &[u8], head: usize, alter: impl Fn(&mut Vec<u8>)) -> Option<Ve
 
 /// The table with texts altered and its pairs in order; as it is if none is.
 pub fn table_with(table: &[u8], alter: impl Fn(&mut Vec<u8>)) -> Vec<u8> {
-    let (season, head) = (Season::of(table), head(table));
-    let Some(texts) = altered(table, head, alter) else {
-        return table.to_vec();
-    };
-    let fields = &table[season.mark().len()..head];
-    let honest = u16::from_be_bytes([fields[2], fields[3]]);
-    write_table_of(season, fields[0], fields[1], honest, fields[4], &texts)
+    let head = head(table);
+    match altered(table, head, item_count(table), alter) {
+        Some(texts) => [&table[..head], &write_pairs(head, &texts)].concat(),
+        None => table.to_vec(),
+    }
 }
 
 /// The sheet with texts altered, likewise.
 pub fn sheet_with(sheet: &[u8], alter: impl Fn(&mut Vec<u8>)) -> Vec<u8> {
-    match altered(sheet, 2, alter) {
+    let count = sheet.get(1).copied().unwrap_or(0) as usize;
+    match altered(sheet, 2, count, alter) {
         Some(texts) => write_sheet(sheet[0], &texts),
         None => sheet.to_vec(),
     }

@@ -87,7 +87,7 @@ impl Ran {
 
     /// The first thing that P3 asks and that is not so.
     pub fn lacks(&self) -> Option<&'static str> {
-        let t = self.pair.table.t;
+        let is_quorum = |heard: &BTreeSet<usize>| self.pair.table.is_quorum(heard);
         let due = |k: usize| {
             let peer = &self.start.peers[k];
             peer.up && peer.p > self.period && peer.c == self.period
@@ -101,7 +101,7 @@ impl Ran {
             ("every fetch", self.fetched.iter().all(Option::is_some)),
             ("no early backing", !self.early_back(|call| call.backs)),
             ("hashes after fetches", self.sent.iter().all(Option::is_some)),
-            ("backs after fetches and hears", self.heard.iter().all(|heard| heard.len() >= t)),
+            ("backs after fetches and hears", self.heard.iter().all(is_quorum)),
         ];
         asked.into_iter().find(|(_, is_so)| !is_so).map(|(name, _)| name)
     }
@@ -155,7 +155,7 @@ fn called(pair: &mut Pair, period: usize, bytes: &[u8]) -> Called {
     let answer = pair.call(bytes);
     let hash = match step {
         Some(Step::Hash { peer: signer, period }) if answer == 0 => {
-            let board = pair.state.peer(signer).board(period, pair.table.t);
+            let board = pair.state.peer(signer).board(&pair.table, period);
             let hash = Entry::Hash { signer, period, board };
             pair.state.bag.iter().position(|entry| *entry == hash)
         }

@@ -1,16 +1,17 @@
 //! Shares asked for on lent states, of document 02's P6: with shares outside of
 //! earlier periods, of the open one and of later ones, the peer's own and others',
-//! and with t signers or fewer. What is due is told by how a state was made, and not
-//! by an engine.
+//! and with signers that are a quorum or not. What is due is told by how a state was
+//! made, and not by an engine.
 
 use crate::layout::encode;
 use crate::pair::{Call, Pair};
 use crate::Engine;
+use inputs::peers::Peers;
 use inputs::random::Random;
 use inputs::tables::Shape;
 use reference::form::{write_step, Step, STEP_LENGTH};
 use reference::state::State;
-use reference::table::{read_table, Table, LEAST_THRESHOLD};
+use reference::table::{read_table, Table};
 
 /// What has a part in the answer to a share. Bit q of a set is period q.
 #[derive(Clone, Copy, Debug)]
@@ -31,12 +32,14 @@ pub struct Case {
 #[derive(Clone, Copy, Debug, PartialEq, Eq)]
 pub enum Signers {
     None,
-    OneTooFew,
-    Threshold,
+    /// As many as can be without a quorum.
+    TooFew,
+    /// As many as it takes for a quorum.
+    Enough,
     All,
 }
 
-const SIGNERS: [Signers; 4] = [Signers::None, Signers::OneTooFew, Signers::Threshold, Signers::All];
+const SIGNERS: [Signers; 4] = [Signers::None, Signers::TooFew, Signers::Enough, Signers::All];
 
 /// The cases of four periods and a peer that nothing else hinders: 5 open periods, 16
 /// sets for the peer and 16 for others, and 4 numbers of signers.
@@ -81,7 +84,7 @@ impl Case {
     }
 
     pub fn is_short(&self) -> bool {
-        [Signers::None, Signers::OneTooFew].contains(&self.signers)
+        [Signers::None, Signers::TooFew].contains(&self.signers)
     }
 
     /// The answer: the first of 7, 8, 9, 17 and 12 that applies, else 0.
@@ -110,10 +113,12 @@ impl Asked {
     /// On a random table and a state in which all else is random too.
     pub fn new(random: &mut Random, case: Case) -> Asked {
         let n = if random.once_in(10) { 16 } else { random.between(2, 5) };
-        let t = random.between(LEAST_THRESHOLD[n - 1], n);
-        let liars = random.between(!case.honest as usize, n - case.honest as usize);
+        let peers = Peers::random(random, n);
+        let t = random.between(peers.least(), peers.sum());
+        let mut liars = random.drawn(1..=n);
+        liars.truncate(random.between(!case.honest as usize, n - case.honest as usize));
         let shape = Shape { n, periods: case.periods, m: random.between(1, 6) };
-        let text = shape.table_with(random, t, liars);
+        let text = shape.table_with(random, &peers, t, &liars);
         let table = read_table(&text).expect("a valid table");
         let alike = (1..=n).filter(|k| table.is_honest(*k) == case.honest);
         let (peer, item) = (random.pick(alike).expect("a peer"), random.below(table.m()));
@@ -186,13 +191,13 @@ fn put_case(
     (j.up, j.p, j.c) = (case.up, case.open, random.between(0, case.open));
     if case.open < case.periods {
         j.database.remove(&(case.open, item));
-        let count = match case.signers {
-            Signers::None => 0,
-            Signers::OneTooFew => table.t - 1,
-            Signers::Threshold => table.t,
-            Signers::All => table.n,
+        let peers = Peers::of_table(table);
+        let signers = match case.signers {
+            Signers::None => Vec::new(),
+            Signers::TooFew => peers.within(random, table.t - 1),
+            Signers::Enough => peers.reaching(random, table.t),
+            Signers::All => (1..=table.n).collect(),
         };
-        let signers = random.drawn(1..=table.n).into_iter().take(count);
-        signers.for_each(|k| j.record(k, case.open, item));
+        signers.into_iter().for_each(|k| j.record(k, case.open, item));
     }
 }

@@ -5,6 +5,7 @@
 //! - `row14`: which bytes are a state, from document 01's row 14
 //! - `lent`: bytes that are lent, and those around them
 //! - `pair`: engines and reference on the same calls
+//! - `tables`: the same for tables, judged
 //! - `sheets`: the same for sheets, written and read
 //! - `shrunk`: the same for rehearsals cut down, and what is promised of them
 //! - `given`: shares on lent states, and what is due
@@ -12,6 +13,9 @@
 //! - `altered`: tables and sheets with other texts for their items
 //! - `wrong_shares`: engines that judge by another rule what was given
 //! - `wrong_shrinkers`: engines that cut rehearsals down in another way
+//! - `wrong_weights`: engines that ask other quorums of peers with weights
+//! - `wrong_readers`: engines that read weights otherwise
+//! - `wrong_reports`: engines that show weights for numbers of peers
 //! - `program`: the proved programs, from input to output
 
 pub mod altered;
@@ -24,8 +28,12 @@ pub mod program;
 pub mod row14;
 pub mod sheets;
 pub mod shrunk;
+pub mod tables;
+pub mod wrong_readers;
+pub mod wrong_reports;
 pub mod wrong_shares;
 pub mod wrong_shrinkers;
+pub mod wrong_weights;
 
 /// An engine over lent bytes.
 #[derive(Clone, Copy)]

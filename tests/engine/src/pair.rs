@@ -65,15 +65,34 @@ impl Pair {
     }
 
     /// One step call on these engines: the answer, or how one of them differs.
-    pub fn call_on(&mut self, engines: &[Engine], step: &[u8]) -> Result<u8, String> {
-        let answer = reference::step::step(&self.table, &mut self.state, step);
-        let after = encode(&self.state);
-        assert!(answer == 0 || after == self.buffer, "the reference changed by a refused step");
-        let (table, before) = (&self.text[..], &self.buffer[..]);
-        let call = Call { table, before, step, answer, after: &after };
+    fn call_on(&mut self, engines: &[Engine], step: &[u8]) -> Result<u8, String> {
+        let (answer, after) = self.advance(step);
+        let call = self.called(step, answer, &after);
         engines.iter().try_for_each(|engine| call.compare(engine))?;
         self.buffer = after;
         Ok(answer)
+    }
+
+    /// One step call: those of the engines that differ.
+    pub fn differing(&mut self, engines: &[Engine], step: &[u8]) -> Vec<Engine> {
+        let (answer, after) = self.advance(step);
+        let call = self.called(step, answer, &after);
+        let differs = |engine: &&Engine| call.compare(engine).is_err();
+        let differing = engines.iter().filter(differs).copied().collect();
+        self.buffer = after;
+        differing
+    }
+
+    /// The reference's answer to a step, and the bytes that are due after it.
+    fn advance(&mut self, step: &[u8]) -> (u8, Vec<u8>) {
+        let answer = reference::step::step(&self.table, &mut self.state, step);
+        let after = encode(&self.state);
+        assert!(answer == 0 || after == self.buffer, "the reference changed by a refused step");
+        (answer, after)
+    }
+
+    fn called<'a>(&'a self, step: &'a [u8], answer: u8, after: &'a [u8]) -> Call<'a> {
+        Call { table: &self.text, before: &self.buffer, step, answer, after }
     }
 }
 

@@ -4,14 +4,15 @@
 use engine::closes::{backings, boards, due_answer, Called, Ran};
 use engine::pair::Pair;
 use inputs::closes::{close, wrong_close, Lack};
+use inputs::quorums::{few_are_enough, many_are_too_few};
 use inputs::random::{run_seed, Random};
 use inputs::steps::random_steps;
 use reference::form::{read_step, write_step, Step};
 use reference::season::Season;
-use reference::state::Entry;
-use reference::table::{Kind, LEAST_THRESHOLD};
-use reference::union::union_board;
-use std::collections::BTreeMap;
+use reference::state::{Entry, Peer};
+use reference::table::{Kind, Table, LEAST_THRESHOLD};
+use reference::union::{union, union_board};
+use std::collections::{BTreeMap, BTreeSet};
 
 const CLOSES: usize = 3_000;
 const WRONG: usize = 500;
@@ -86,18 +87,20 @@ fn between(ran: &Ran, hits: &mut Hits) {
 
 /// What the close itself is like.
 fn alike(ran: &Ran, hits: &mut Hits) {
-    let (n, t, p) = (ran.pair.table.n, ran.pair.table.t, ran.period);
-    let alone = |item: &usize| ran.start.peers.iter().all(|peer| peer.signers(p, *item) < t);
+    let (table, n, p) = (&ran.pair.table, ran.pair.table.n, ran.period);
+    let has = |peer: &Peer, item| table.is_quorum(&peer.signers(p, item));
+    let alone = |item: &usize| !ran.start.peers.iter().any(|peer| has(peer, *item));
     hits.add("an item that no database alone has", ran.board.iter().any(alone));
     hits.add("no items", ran.board.is_empty());
-    hits.add("the old season", ran.pair.table.season == Season::Old);
-    hits.add("the new season", ran.pair.table.season == Season::New);
-    let is_placed = |item: &usize| matches!(ran.pair.table.items[*item].kind, Kind::PlacedAudit(_));
+    hits.add("the old season", table.season == Season::Old);
+    hits.add("the new season", table.season == Season::New);
+    let is_placed = |item: &usize| matches!(table.items[*item].kind, Kind::PlacedAudit(_));
     hits.add("an audit with its place", ran.board.iter().any(is_placed));
     hits.add("a period after the first", p > 0);
     hits.add("all fetches before all hashes", n > 1 && ran.fetches_come_first());
     hits.add("all hashes heard", ran.heard.iter().all(|heard| heard.len() == n));
-    hits.add("only t hashes heard", t < n && ran.heard.iter().any(|heard| heard.len() == t));
+    let only_t = |heard: &BTreeSet<usize>| heard.len() < n && table.weight(heard) == table.t;
+    hits.add("only t hashes heard", ran.heard.iter().any(only_t));
     let own = (1..=n).filter(|peer| ran.heard[peer - 1].contains(peer));
     hits.add("an own hash not heard", own.count() < n);
     let another = |entry: &Entry| match entry {
@@ -109,10 +112,23 @@ fn alike(ran: &Ran, hits: &mut Hits) {
     hits.add("the board published before the end", !boards(&ran.pair, p).is_empty());
 }
 
+/// What weights make of it.
+fn weighed(ran: &Ran, hits: &mut Hits) {
+    let table = &ran.pair.table;
+    let signers: Vec<BTreeSet<usize>> = union(&ran.start, ran.period).into_values().collect();
+    let few = |peers: &BTreeSet<usize>| few_are_enough(table, peers);
+    let many = |peers: &BTreeSet<usize>| many_are_too_few(table, peers);
+    hits.add("unequal weights", table.weights.iter().any(|weight| *weight != table.weights[0]));
+    hits.add("a threshold above n", table.t > table.n);
+    hits.add("an item of few signers", signers.iter().any(few));
+    hits.add("no board for an item of many signers", signers.iter().any(many));
+    hits.add("few hashes heard", ran.heard.iter().any(few));
+}
+
 #[test]
 fn closes_come_through() {
     let (seed, mut hits, mut calls) = (run_seed(), Hits::default(), 0);
-    let mut sizes: BTreeMap<(usize, usize), usize> = BTreeMap::new();
+    let mut sizes: BTreeMap<(bool, usize, usize), usize> = BTreeMap::new();
     for number in 0..CLOSES {
         let mut random = Random::new(seed, number);
         let made = close(&mut random, number);
@@ -123,17 +139,21 @@ fn closes_come_through() {
         let answers = publish_twice(&mut random, &ran).expect(&which);
         between(&ran, &mut hits);
         alike(&ran, &mut hits);
+        weighed(&ran, &mut hits);
         let down = |bytes: &Vec<u8>| matches!(read_step(bytes), Ok(Step::Down { .. }));
         hits.add("a peer down before", made.earlier.iter().any(down));
         hits.add("full after the exchange", answers[0] == 13);
         hits.add("full at a later place", answers[1] == 13);
-        *sizes.entry((ran.pair.table.n, ran.pair.table.t)).or_default() += 1;
+        let Table { season, n, t, .. } = ran.pair.table;
+        *sizes.entry((season.has_weights(), n, t)).or_default() += 1;
         calls += made.earlier.len() + made.later.len();
     }
-    println!("{CLOSES} closes with {calls} calls\n{hits:#?}\nby n and t {sizes:?}");
+    println!("{CLOSES} closes with {calls} calls\n{hits:#?}\nby weights, n and t {sizes:?}");
     assert!(hits.0.values().all(|times| *times > 0), "{hits:?}");
-    let all = (1..=16).flat_map(|n| (LEAST_THRESHOLD[n - 1]..=n).map(move |t| (n, t)));
+    let all = (1..=16).flat_map(|n| (LEAST_THRESHOLD[n - 1]..=n).map(move |t| (false, n, t)));
     assert!(all.into_iter().all(|size| sizes.contains_key(&size)), "{sizes:?}");
+    let is_weighted = |n: usize| sizes.keys().any(|size| size.0 && size.1 == n);
+    assert!((1..=16).all(is_weighted), "{sizes:?}");
 }
 
 /// Closes that lack one thing. In some of them the calls between make up for it;
@@ -186,11 +206,11 @@ fn a_peer_that_stays_down() {
 fn a_fetch_left_out() {
     let failed = some_fail(Lack::Fetch, "every fetch");
     let others = failed.iter().filter(|ran| backs_without_one(ran)).count();
-    println!("another board backed by t peers: {others}");
+    println!("another board backed by a quorum: {others}");
     assert!(others > 0);
 }
 
-/// Whether t peers back the board of the union without a peer from whom nobody
+/// Whether a quorum backs the board of the union without a peer from whom nobody
 /// fetches, and it is another board.
 fn backs_without_one(ran: &Ran) -> bool {
     let (table, p) = (&ran.pair.table, ran.period);
@@ -206,6 +226,6 @@ fn backs_without_one(ran: &Ran) -> bool {
     });
     boards.any(|board| {
         let backed = backings(&ran.pair, p).into_values().filter(|(_, other)| *other == board);
-        board != ran.board && backed.count() >= table.t
+        board != ran.board && table.is_quorum(&backed.map(|(signer, _)| signer).collect())
     })
 }

@@ -9,7 +9,6 @@ use inputs::answers::Answers;
 use inputs::random::{run_seed, Random};
 use inputs::steps::random_steps;
 use reference::form::{write_step, Step};
-use reference::season::Season;
 use std::collections::BTreeMap;
 
 const ANY: usize = 5_000;
@@ -52,7 +51,7 @@ fn every_combination() {
 /// Any number of periods; and 7, 8 and 9 come first, also where a share was given.
 #[test]
 fn any_case() {
-    let (seed, mut seen, mut new) = (run_seed(), BTreeMap::new(), 0);
+    let (seed, mut seen, mut seasons) = (run_seed(), BTreeMap::new(), [0; 3]);
     for number in 0..ANY {
         let mut random = Random::new(!seed, number);
         let case = Case::any(&mut random);
@@ -60,13 +59,13 @@ fn any_case() {
         check(&asked, &format!("seed {seed}, number {number}"));
         let [gave_before, _, _] = case.when(case.own);
         *seen.entry((case.due(), gave_before, case.is_short())).or_insert(0) += 1;
-        new += (asked.pair.table.season == Season::New) as usize;
+        seasons[asked.pair.table.season as usize] += 1;
     }
-    println!("by answer, given before, short: {seen:?}; {new} of the new season");
+    println!("by answer, given before, short: {seen:?}; by seasons {seasons:?}");
     let both = [(7, true, true), (7, true, false), (8, true, false), (9, true, false)];
     let alone = [(0, false, false), (12, false, true), (17, true, true), (17, true, false)];
     assert!(both.iter().chain(&alone).all(|key| seen.get(key).is_some_and(|times| *times > 20)));
-    assert!((ANY / 3..=2 * ANY / 3).contains(&new));
+    assert!(seasons.iter().all(|times| *times > ANY / 4));
 }
 
 /// A peer that is refused a share may hold and sign the item again, and is refused

@@ -1,15 +1,16 @@
 //! Whole rehearsals, new ones in each run: the same report, and the state that
 //! fresh and step lead to.
 
+use engine::altered::must_be_found;
 use engine::layout::{encode, LENGTH};
 use engine::lent::Lent;
+use engine::wrong_reports::{RIGHT_REPORT, WRONG_REPORTS};
 use engine::{board_report_most, Engine, ENGINES, PLAIN};
 use inputs::answers::Answers;
 use inputs::kinds::{rehearsal, round};
 use inputs::random::{run_seed, Random};
 use inputs::rehearsed::Rehearsed;
 use reference::report::rehearse;
-use reference::season::Season;
 
 /// So many rounds, each of all kinds.
 const ROUNDS: usize = 10;
@@ -133,19 +134,42 @@ fn another_report_is_found() {
     assert_eq!((compare(&PLAIN).is_ok(), compare(&wrong).is_err()), (true, true));
 }
 
+/// Weights that are shown for numbers of peers are found.
+#[test]
+fn every_weight_on_a_report_is_found() {
+    let seed = run_seed();
+    let found = |engine: &Engine| {
+        let differs = |number: &usize| {
+            let input = rehearsal(seed, *number).1;
+            let (expected, random) =
+                (Expected::of(&Rehearsed::new(&input)), &mut Random::new(seed, 0));
+            let room = expected.report.len();
+            call(engine, random, &input, &expected, LENGTH, room).is_err()
+        };
+        (0..round()).filter(differs).count()
+    };
+    for engine in WRONG_REPORTS {
+        must_be_found(engine.name, found(&engine));
+    }
+    assert_eq!(found(&RIGHT_REPORT), 0);
+}
+
 #[test]
 fn same_reports() {
-    let (seed, mut answers) = (run_seed(), Answers::default());
-    // Of the old season and of the new.
-    let (mut taken, mut given) = ([0; 2], [0; 2]);
+    let (seed, mut answers, mut weighted) = (run_seed(), Answers::default(), Answers::default());
+    // By seasons.
+    let (mut taken, mut given) = ([0; 3], [0; 3]);
     for number in 0..ROUNDS * round() {
         let (kind, input) = rehearsal(seed, number);
         let rehearsed = Rehearsed::new(&input);
         assert!((kind.fits)(&rehearsed), "seed {seed}, number {number}: not {}", kind.name);
         answers.count_all(&rehearsed);
         if let Ok(outcome) = &rehearsed.outcome {
-            let season = (outcome.table.season == Season::New) as usize;
+            let season = outcome.table.season as usize;
             taken[season] += 1;
+            if outcome.table.season.has_weights() {
+                weighted.count_all(&rehearsed);
+            }
             given[season] += outcome.answers.iter().filter(|answer| **answer == 17).count();
         }
         if let Err(wrong) = compare_all(number, seed, &rehearsed) {
@@ -155,7 +179,9 @@ fn same_reports() {
     }
     println!("{} rehearsals with {} steps", ROUNDS * round(), answers.calls());
     println!("tables taken {taken:?}, shares given before {given:?}\n{answers}");
+    println!("on weighted tables\n{weighted}");
     assert!(taken.iter().all(|times| *times > 500), "seed {seed}");
     assert!(given.iter().all(|times| *times > 100), "seed {seed}");
     assert_eq!(answers.wrong(), [""; 0], "seed {seed}");
+    assert_eq!(weighted.wrong(), [""; 0], "seed {seed}");
 }

@@ -9,7 +9,6 @@ use inputs::random::{run_seed, Random};
 use inputs::refused::rehearsals;
 use inputs::rehearsed::{Outcome, Rehearsed};
 use reference::form::STEP_LENGTH;
-use reference::season::Season;
 use reference::shrink::{shrink, steps_left, text, Left};
 use reference::Refusal;
 use std::collections::BTreeMap;
@@ -28,7 +27,7 @@ struct Seen {
     /// The others by their last answer, by their passes, and by their season.
     answers: BTreeMap<u8, usize>,
     passes: BTreeMap<usize, usize>,
-    seasons: [usize; 2],
+    seasons: [usize; 3],
     /// Those that end with a short tail.
     tails: usize,
     /// Those in which a step was dropped that had been answered 0.
@@ -59,7 +58,7 @@ impl Seen {
         let answer = answers.last().copied().unwrap_or(0);
         *self.answers.entry(answer).or_default() += 1;
         *self.passes.entry(left.dropped.len()).or_default() += 1;
-        self.seasons[(outcome.table.season == Season::New) as usize] += 1;
+        self.seasons[outcome.table.season as usize] += 1;
         self.tails += !(input.len() - outcome.end).is_multiple_of(STEP_LENGTH) as usize;
         let is_dropped = |at: &usize| !left.numbers.contains(&(at + 1));
         self.done += (0..answers.len()).filter(is_dropped).any(|at| answers[at] == 0) as usize;
@@ -78,7 +77,7 @@ impl Seen {
         assert!(self.clean.iter().all(|times| *times > 0));
         let several: usize = self.passes.range(3..).map(|(_, times)| times).sum();
         assert!(several > 100 && self.passes.keys().any(|passes| *passes > 8));
-        assert!(self.seasons.iter().all(|times| *times > 300));
+        assert!(self.seasons.iter().all(|times| *times > 200));
         // What fills the bag is left.
         assert!(self.tails > 0 && self.done > 300 && self.most[1] > 256);
     }

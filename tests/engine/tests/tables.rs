@@ -3,47 +3,18 @@
 
 use engine::altered::{is_audit, must_be_found, table_with};
 use engine::layout::LENGTH;
-use engine::{board_state_length, Engine, ENGINES};
+use engine::tables::{compare, expected, same_answer};
+use engine::wrong_readers::{CheckTable, WRONG_READERS};
+use engine::{board_state_length, ENGINES};
 use inputs::damaged::damaged_table;
 use inputs::random::{run_seed, Random};
-use inputs::seasons::SORTS;
-use inputs::sorts::{in_turn, Tally};
-use inputs::tables::{add, pair_at};
+use inputs::seasons::{move_offsets, SORTS};
+use inputs::sorts::{in_turn, Sort, Tally};
+use inputs::weights;
 use reference::season::{Season, SEASONS};
-use reference::table::read_table;
 use std::collections::BTreeMap;
 
-/// The answer to a fresh call on a buffer of that length.
-fn expected(table: &[u8], length: usize) -> u8 {
-    match read_table(table) {
-        Err(refusal) => refusal.number(),
-        Ok(_) if length != LENGTH => 14,
-        Ok(_) => 0,
-    }
-}
-
-/// Both calls on a part of some dirty bytes. What is around that part is never
-/// written, and the part itself only by a fresh call that is taken.
-fn compare(engine: &Engine, text: &[u8], length: usize, dirty: &[u8], any_step: &[u8]) {
-    let answer = expected(text, length);
-    let place = format!("{}: table {text:?}, length {length}", engine.name);
-    let mut bytes = dirty.to_vec();
-    let step_answer = (engine.step)(text, &mut bytes[16..16 + length], any_step);
-    let dirty_answer = if answer == 0 { 14 } else { answer };
-    assert_eq!(step_answer, dirty_answer, "{place}, step {any_step:?}");
-    assert!(bytes == dirty, "{place}: a refused step wrote");
-
-    let table_answer = if answer == 14 { 0 } else { answer };
-    assert_eq!((engine.check_table)(text), table_answer, "{place}: the table alone");
-    assert_eq!((engine.fresh)(text, &mut bytes[16..16 + length]), answer, "{place}");
-    let mut after = dirty.to_vec();
-    if answer == 0 {
-        after[16..16 + length].fill(0);
-    }
-    assert!(bytes == after, "{place}: fresh wrote something else");
-}
-
-/// The answers to fresh are counted apart for what starts as the new season does.
+/// The answers to fresh are counted apart by what a table starts with.
 #[test]
 fn same_refusals() {
     assert_eq!(board_state_length(), LENGTH);
@@ -57,75 +28,91 @@ fn same_refusals() {
         let dirty = vec![random.bits() as u8 | 1; length + 32];
         let any_step = vec![random.below(20) as u8; random.between(0, 20)];
         ENGINES.iter().for_each(|engine| compare(engine, &text, length, &dirty, &any_step));
-        let season = text.starts_with(&[0, 2]) as usize;
+        let season = Season::of(&text) as usize;
         *seen[season].entry(expected(&text, length)).or_default() += 1;
     }
-    println!("answers to fresh, old season {:?}, new season {:?}", seen[0], seen[1]);
+    println!("answers to fresh by seasons {seen:?}");
     for seen in seen {
         assert!([0, 1, 2, 3, 4, 14].into_iter().all(|answer| seen[&answer] > 100));
     }
 }
 
 /// Every n and t at the head of a table without items, alone and with a byte
-/// more, by which a header that is taken meets the next refusal; in both seasons.
-/// The proved engine goes by document 02's rule, and the other two by document
-/// 01's table.
+/// more, by which a header that is taken meets the next refusal; in every season, with
+/// weights that are all alike. The proved engine and the plain one go by document 02's
+/// rule, and without weights the independent one goes by document 01's table.
 #[test]
 fn every_threshold() {
-    for mark in [&[][..], &[0, 2]] {
-        let mut seen = BTreeMap::<u8, usize>::new();
-        for (n, t) in (0..=255).flat_map(|n| (0..=255).map(move |t| (n, t))) {
-            for header in [&[n, t, 0, 0, 1, 0][..], &[n, t, 0, 0, 1, 0, 0]] {
-                let answer = same_answer(&[mark, header].concat());
-                *seen.entry(answer).or_default() += 1;
-            }
+    let [one, two, three, four] = [1, 2, 3, 4].map(|weight| ([0, 3], weight));
+    for (mark, weight) in [([0, 2], 0), one, two, three, four] {
+        all_thresholds(&mark, weight);
+    }
+    all_thresholds(&[], 0);
+}
+
+/// Behind what the season starts with, and before weights, or none.
+fn all_thresholds(mark: &[u8], weight: u8) {
+    let mut seen = BTreeMap::<u8, usize>::new();
+    for (n, t) in (0..=255).flat_map(|n| (0..=255).map(move |t| (n, t))) {
+        let weights = vec![weight; if weight > 0 { n as usize } else { 0 }];
+        let table = [mark, &[n, t, 0, 0, 1, 0], &weights].concat();
+        for text in [&table, &[&table[..], &[0]].concat()] {
+            *seen.entry(same_answer(text)).or_default() += 1;
         }
-        // One threshold for 1 to 3 peers, two for 4 to 6, and so on; six for 16.
-        let taken = 3 * (1 + 2 + 3 + 4 + 5) + 6;
-        assert_eq!(seen, [(0, taken), (1, 2 * (256 * 256 - taken)), (2, taken)].into());
     }
+    // A third of W, rounded up: one threshold for 1 to 3, two for 4 to 6, and so on.
+    let each = weight.max(1) as usize;
+    let taken = (1..=16).map(|n| (each * n).div_ceil(3)).sum();
+    assert_eq!(seen, [(0, taken), (1, 2 * (256 * 256 - taken)), (2, taken)].into());
 }
 
-/// The answer of all to a table alone.
-fn same_answer(text: &[u8]) -> u8 {
-    let answer = expected(text, LENGTH);
-    for engine in ENGINES {
-        assert_eq!((engine.check_table)(text), answer, "{}: table {text:?}", engine.name);
-    }
-    answer
-}
-
-/// A 0 and every second byte, before a header and before a table's end: all but 2
-/// are header.
+/// A 0 and every second byte, before a header and before a table's end, without weights
+/// and with them: all but 2 and 3 are header.
 #[test]
 fn every_second_byte() {
+    let (pair, text) = ([0, 12, 0, 5], [0, 0, 0, 7, 2]);
+    let (weights, behind) = ([1, 1, 1], [0, 15, 0, 5]);
+    let rests = [
+        vec![],
+        pair.to_vec(),
+        [&pair[..], &text].concat(),
+        weights.to_vec(),
+        [&weights[..], &behind].concat(),
+        [&weights[..], &behind, &text].concat(),
+    ];
     let mut passed = Vec::new();
     for second in 0..=255 {
         let header = [0, second, 3, 3, 0, 7, 1, 1];
-        let answers = [&[][..], &[0, 12, 0, 5], &[0, 12, 0, 5, 0, 0, 0, 7, 2]]
-            .map(|rest| same_answer(&[&header, rest].concat()));
-        if answers != [1; 3] {
+        let answers = rests.clone().map(|rest| same_answer(&[&header[..], &rest].concat()));
+        if answers != [1; 6] {
             passed.push((second, answers));
         }
     }
-    // The pairs cut short; an item that is not there; an audit without its place.
-    assert_eq!(passed, [(2, [2, 2, 3])]);
+    // The pairs cut short; an item that is not there; an audit without its place. What
+    // are weights to one season are offsets to the other.
+    assert_eq!(passed, [(2, [2, 2, 3, 2, 2, 2]), (3, [1, 1, 1, 2, 2, 3])]);
 }
 
-/// Every sort of table that seasons make, and the answers that each must get.
+/// Every sort of table that seasons make, and weights, and the answers that each must
+/// get.
 #[test]
-fn every_sort_of_season() {
+fn every_sort() {
+    every_sort_of(&SORTS);
+    every_sort_of(&weights::SORTS);
+}
+
+fn every_sort_of(sorts: &'static [Sort]) {
     let (seed, mut seen) = (run_seed(), Tally::default());
-    for number in 0..200 * SORTS.len() {
-        let (sort, text) = in_turn(&SORTS, seed, number);
+    for number in 0..200 * sorts.len() {
+        let (sort, text) = in_turn(sorts, seed, number);
         let mut random = Random::new(!seed, number);
         let dirty = vec![random.bits() as u8 | 1; LENGTH + 32];
         ENGINES.iter().for_each(|engine| compare(engine, &text, LENGTH, &dirty, &[1; 13]));
         seen.count(sort, expected(&text, LENGTH));
     }
     println!("{seen}");
-    assert_eq!(seen.rare(&SORTS, 20), [""; 0], "seed {seed}");
-    assert_eq!(seen.foreign(&SORTS), [""; 0], "seed {seed}");
+    assert_eq!(seen.rare(sorts, 20), [""; 0], "seed {seed}");
+    assert_eq!(seen.foreign(sorts), [""; 0], "seed {seed}");
 }
 
 /// The verdict on a table in which audits with so many bytes behind their kind are
@@ -142,18 +129,11 @@ fn altered(table: &[u8], season: Season, more: usize, alter: fn(&mut Vec<u8>)) -
 /// The verdict on a table whose offsets are two more, if it is of the new season.
 fn moved(table: &[u8]) -> u8 {
     let mut moved = table.to_vec();
-    if let [0, 2, _, _, _, _, _, m, ..] = table {
-        for at in (0..*m as usize).map(|k| pair_at(table, k)) {
-            if at + 2 <= table.len() {
-                add(&mut moved, at, 2);
-            }
-        }
+    if Season::of(table) == Season::New {
+        move_offsets(&mut moved, 2);
     }
     plain::check_table(&moved)
 }
-
-/// What judges a table.
-type CheckTable = fn(&[u8]) -> u8;
 
 /// The comparison can fail: each of these engines differs on some sort of table.
 #[test]
@@ -173,8 +153,8 @@ fn every_wrong_reader_of_seasons_is_found() {
             [0, _, rest @ ..] => plain::check_table(&[&[0, 2], rest].concat()),
             _ => plain::check_table(table),
         }),
-        ("3 for 2", |table| match table {
-            [0, 3, rest @ ..] => plain::check_table(&[&[0, 2], rest].concat()),
+        ("4 for 2", |table| match table {
+            [0, 4, rest @ ..] => plain::check_table(&[&[0, 2], rest].concat()),
             _ => plain::check_table(table),
         }),
         ("a place taken in an old table", |table| {
@@ -190,8 +170,21 @@ fn every_wrong_reader_of_seasons_is_found() {
         }),
     ];
     for (name, check_table) in readers {
-        let tables = (0..50 * SORTS.len()).map(|number| in_turn(&SORTS, seed, number).1);
-        let found = tables.filter(|table| check_table(table) != expected(table, LENGTH));
-        must_be_found(name, found.count());
+        must_be_found(name, found(check_table, &SORTS, seed));
     }
+}
+
+#[test]
+fn every_wrong_reader_of_weights_is_found() {
+    let seed = run_seed();
+    for (name, check_table) in WRONG_READERS {
+        let times = [&weights::SORTS[..], &SORTS].map(|sorts| found(check_table, sorts, seed));
+        must_be_found(name, times.iter().sum());
+    }
+}
+
+/// On how many tables, some of each sort, a reader differs.
+fn found(check_table: CheckTable, sorts: &'static [Sort], seed: u64) -> usize {
+    let tables = (0..100 * sorts.len()).map(|number| in_turn(sorts, seed, number).1);
+    tables.filter(|table| check_table(table) != expected(table, LENGTH)).count()
 }

@@ -195,7 +195,7 @@ fn buffers_of_every_length() {
     assert!(lengths.iter().any(|length| *length > 100));
 }
 
-/// 64 votes of 32 preferences are the longest sheet, of either season.
+/// 64 votes of 32 preferences are the longest sheet, of every season.
 #[test]
 fn the_longest() {
     let seed = run_seed();

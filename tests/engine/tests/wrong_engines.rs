@@ -1,20 +1,23 @@
 //! The comparison can fail: each of the engines that document 01 wants rejected,
-//! each that lets items be held which clash, and each that gives shares by another
-//! rule, differs from the reference somewhere in a random run or on a lent state.
+//! each that lets items be held which clash, each that gives shares by another rule, and
+//! each that weighs peers otherwise, differs from the reference somewhere in a random
+//! run or on a lent state.
 
 use engine::altered::{is_audit, must_be_found, table_with};
 use engine::given::{Asked, Case, COMBINATIONS};
 use engine::pair::Pair;
 use engine::wrong_shares::{LATER_COUNTED, RIGHT_SHARES, WRONG_ELSEWHERE, WRONG_SHARES};
+use engine::wrong_weights::{RIGHT_WEIGHTS, WRONG_WEIGHTS};
 use engine::{Engine, PLAIN};
+use inputs::peers::Peers;
 use inputs::random::{run_seed, Random};
 use inputs::steps::random_steps;
-use inputs::tables::Shape;
+use inputs::tables::{placed_season, Shape};
+use inputs::unequal::unequal_table;
 use reference::form::{read_step, Step};
-use reference::season::Season;
 use reference::table::read_table;
 
-const RUNS: usize = 20;
+const RUNS: usize = 40;
 
 fn wrong(name: &'static str, step: fn(&[u8], &mut [u8], &[u8]) -> u8) -> Engine {
     Engine { name, step, ..PLAIN }
@@ -107,10 +110,18 @@ fn every_wrong_clash_is_found() {
         |random| {
             let of_ballot_7 = |rest: [u8; 2]| [&[0, 0, 0, 7], &rest[..]].concat();
             let texts = [[2, 0], [2, 1], [2, 2], [2, 128], [2, 255], [1, 0]].map(of_ballot_7);
-            let shape = Shape { n: 4, periods: 3, m: texts.len() };
-            shape.with_liars(random, 3, 1, Season::New, &texts)
+            let season = placed_season(random);
+            let peers = Peers::of(random, season, 4);
+            let liars = peers.liars(random, peers.least(), 1);
+            peers.table(peers.least(), &liars, 3, &texts)
         },
     );
+}
+
+/// In runs on weighted tables, where numbers of peers would often decide otherwise.
+#[test]
+fn every_wrong_weight_is_found() {
+    found_but(&WRONG_WEIGHTS, &RIGHT_WEIGHTS, unequal_table);
 }
 
 /// In runs from the fresh state, where no share is of a later period.
@@ -119,8 +130,8 @@ fn every_wrong_share_is_found() {
     let table = |random: &mut Random| Shape { n: 4, periods: 8, m: 3 }.honest_table(random, 1);
     let is_later = |engine: &Engine| engine.name == LATER_COUNTED.name;
     let engines = WRONG_SHARES.into_iter().filter(|engine| !is_later(engine));
-    all_found(&engines.chain(WRONG_ELSEWHERE).collect::<Vec<Engine>>(), table);
-    assert_eq!(found(&RIGHT_SHARES, run_seed(), table), 0);
+    let engines: Vec<Engine> = engines.chain(WRONG_ELSEWHERE).collect();
+    found_but(&engines, &[RIGHT_SHARES], table);
 }
 
 /// On lent states, where the true engine is right.
@@ -138,32 +149,43 @@ fn every_wrong_share_is_found_on_lent_states() {
 
 /// Each of the engines is found in some run on such tables.
 fn all_found(engines: &[Engine], table: fn(&mut Random) -> Vec<u8>) {
-    let seed = run_seed();
-    for engine in engines {
-        must_be_found(engine.name, found(engine, seed, table));
-    }
+    found_but(engines, &[], table);
 }
 
-/// The number of runs on such tables in which the engine is found.
-fn found(engine: &Engine, seed: u64, table: fn(&mut Random) -> Vec<u8>) -> usize {
-    let runs = (0..RUNS).filter(|number| {
-        let mut random = Random::new(seed, *number);
+/// The same, but those that are right are found in none.
+fn found_but(wrong: &[Engine], right: &[Engine], table: fn(&mut Random) -> Vec<u8>) {
+    let times = found(&[wrong, right].concat(), run_seed(), table);
+    wrong.iter().zip(&times).for_each(|(engine, times)| must_be_found(engine.name, *times));
+    assert_eq!(times[wrong.len()..], vec![0; right.len()]);
+}
+
+/// The number of runs on such tables in which each engine is found.
+fn found(engines: &[Engine], seed: u64, table: fn(&mut Random) -> Vec<u8>) -> Vec<usize> {
+    let mut times = vec![0; engines.len()];
+    for number in 0..RUNS {
+        let mut random = Random::new(seed, number);
         let text = table(&mut random);
-        differs(engine, &mut random, text)
-    });
-    runs.count()
-}
-
-/// Whether the engine differs in a run, in which the true one does not.
-fn differs(engine: &Engine, random: &mut Random, text: Vec<u8>) -> bool {
-    let mut pair = Pair::fresh(text);
-    for _ in 0..600 {
-        for step in random_steps(random, &pair.table, &pair.state) {
-            if let Err(difference) = pair.call_on(&[PLAIN, *engine], &step) {
-                assert!(difference.starts_with(engine.name), "{difference}");
-                return true;
-            }
+        let found = differing(engines, &mut random, text);
+        for (at, engine) in engines.iter().enumerate() {
+            times[at] += found.contains(&engine.name) as usize;
         }
     }
-    false
+    times
+}
+
+/// The engines that differ in a run, in which the true one does not.
+fn differing(engines: &[Engine], random: &mut Random, text: Vec<u8>) -> Vec<&'static str> {
+    let (mut pair, mut found) = (Pair::fresh(text), Vec::new());
+    let mut left = [&[PLAIN], engines].concat();
+    for _ in 0..600 {
+        for step in random_steps(random, &pair.table, &pair.state) {
+            found.extend(pair.differing(&left, &step).iter().map(|engine| engine.name));
+            left.retain(|engine| !found.contains(&engine.name));
+        }
+        if left.len() == 1 {
+            break;
+        }
+    }
+    assert!(!found.contains(&PLAIN.name), "the true engine differs");
+    found
 }

@@ -139,7 +139,7 @@ impl Bursts<'_, '_> {
         for peer in self.making.liars() {
             let mut boards = vec![0, self.board()];
             for j in self.making.honest() {
-                let board = self.making.state.peer(j).board(period, self.making.table.t);
+                let board = self.making.state.peer(j).board(&self.making.table, period);
                 boards.push(bits(&board));
             }
             for board in boards {

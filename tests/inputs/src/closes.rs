@@ -3,13 +3,14 @@
 //! lacking. `earlier` has what comes before the exchange, `exchange` the rest.
 
 use crate::making::Making;
+use crate::peers::Peers;
 use crate::random::Random;
 use crate::steps::random_steps;
-use crate::tables::Shape;
+use crate::tables::{random_season, Shape};
 use reference::form::{read_step, write_step, Step};
+use reference::season::Season;
 use reference::state::{Board, Entry, BAG_SIZE};
 use reference::step::step;
-use reference::table::LEAST_THRESHOLD;
 use std::collections::BTreeSet;
 
 /// A close of a period: the calls up to it, and those of the exchange.
@@ -30,7 +31,7 @@ pub enum Lack {
     BackingAfterFetches,
     /// A peer's only back stands before its last fetch, and is refused.
     BackAfterFetches,
-    /// With t = n nobody hears its own hash.
+    /// With t = W nobody hears its own hash.
     OwnHash,
     /// One peer, or all, do not fetch from another.
     Fetch,
@@ -54,23 +55,27 @@ pub(crate) struct Closing<'a, 'b> {
 }
 
 /// A close that lacks nothing, by its number: of every number of peers and every
-/// threshold in turn, and more often of few peers.
+/// threshold in turn, without weights and with them, and more often of few peers.
 pub fn close(random: &mut Random, number: usize) -> Close {
     let (turn, fills) = (number / 8, number % 64 == 32);
-    let n = match number % 8 {
-        7 => 1 + turn % 16,
-        0 if fills => random.between(4, 6),
-        _ => random.between(1, 6),
+    let in_turn = [Season::Old, Season::Weighted, Season::New, Season::Weighted][turn / 16 % 4];
+    let (n, season) = match number % 8 {
+        7 => (1 + turn % 16, in_turn),
+        0 if fills => (random.between(4, 6), random_season(random)),
+        _ => (random.between(1, 6), random_season(random)),
     };
-    let least = LEAST_THRESHOLD[n - 1];
-    let t = least + turn / 16 % (n - least + 1);
+    let peers = Peers::of(random, season, n);
+    let t = match number % 8 {
+        7 => peers.least() + turn / 32 % (peers.sum() - peers.least() + 1),
+        _ => peers.threshold(random),
+    };
     if fills {
         let shape = Shape { n, periods: 8, m: random.between(40, 64) };
         let free = [0, random.between(1, 6)][turn / 8 % 2];
-        return make(random, shape, t, Some(free), Lack::Nothing);
+        return make(random, shape, &peers, t, Some(free), Lack::Nothing);
     }
     let shape = Shape { n, ..Shape::random(random, 1) };
-    make(random, shape, t, None, Lack::Nothing)
+    make(random, shape, &peers, t, None, Lack::Nothing)
 }
 
 /// A close that lacks something, unless the calls between make up for it.
@@ -78,23 +83,30 @@ pub fn wrong_close(random: &mut Random, lack: Lack) -> Close {
     // From 4 peers on a peer is more than needed.
     let spare = [Lack::BackAfterFetches, Lack::Fetch].contains(&lack);
     let n = random.between(if spare { 4 } else { 2 }, 6);
-    let least = LEAST_THRESHOLD[n - 1];
+    let peers = Peers::random(random, n);
     let t = match lack {
-        Lack::OwnHash => n,
-        _ if spare => least,
-        _ => random.between(least, n),
+        Lack::OwnHash => peers.sum(),
+        _ if spare => peers.least(),
+        _ => random.between(peers.least(), peers.sum()),
     };
     let shape = Shape { n, periods: random.between(1, 3), m: random.between(1, 8) };
-    make(random, shape, t, None, lack)
+    make(random, shape, &peers, t, None, lack)
 }
 
 /// A close on an honest table, with so many entries free at the exchange beside
 /// those that it needs, or any number.
-fn make(random: &mut Random, shape: Shape, t: usize, free: Option<usize>, lack: Lack) -> Close {
+fn make(
+    random: &mut Random,
+    shape: Shape,
+    peers: &Peers,
+    t: usize,
+    free: Option<usize>,
+    lack: Lack,
+) -> Close {
     // With more peers fewer periods: a settled one takes n entries twice.
     let most = if free.is_some() { 2 } else { shape.periods.min(1 + 24 / shape.n) };
     let period = random.below(most);
-    let text = shape.table_with(random, t, 0);
+    let text = shape.table_with(random, peers, t, &[]);
     let mut making = Making::on(random, text);
     let unready = making.honest().into_iter().collect();
     let making = &mut making;

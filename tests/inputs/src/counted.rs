@@ -2,6 +2,7 @@
 //! or published comes again, or a period has two boards.
 
 use crate::making::Making;
+use crate::peers::Peers;
 use crate::period::posts;
 use crate::random::Random;
 use crate::rehearsed::{Outcome, Rehearsed};
@@ -10,7 +11,6 @@ use crate::steps::all_items;
 use crate::tables::Shape;
 use reference::form::Step;
 use reference::state::{Board, Entry};
-use reference::table::LEAST_THRESHOLD;
 use std::collections::BTreeSet;
 
 pub fn posts_again(random: &mut Random, number: usize) -> Vec<u8> {
@@ -56,22 +56,26 @@ pub fn comes_again(rehearsed: &Rehearsed, op: u8) -> bool {
     again == [0].into()
 }
 
-/// At least t peers are dishonest: they back two boards of one period that have
-/// an item in common, and one too few of them back a third.
+/// The dishonest peers are a quorum: they back two boards of one period that have an
+/// item in common, and one too few of them back a third.
 pub fn two_boards(random: &mut Random, number: usize) -> Vec<u8> {
     let n = [1, 2, 3, 4, 5, 7, 16][number % 7];
-    let t = LEAST_THRESHOLD[n - 1];
-    let liars = random.between(t, n);
+    let peers = Peers::random(random, n);
+    let t = peers.least();
+    let least = random.between(t, peers.sum());
+    let liars = peers.reaching(random, least);
+    let mut too_few = peers.first_reaching(&liars, t);
+    too_few.pop();
     let shape = Shape { n, periods: random.between(1, 3), m: random.between(3, 8) };
-    let text = shape.table_with(random, t, liars);
+    let text = shape.table_with(random, &peers, t, &liars);
     let mut making = Making::on(random, text);
     making.together(posts(&making.table));
     making.wander(20);
     let period = making.random.below(making.table.periods);
     let [one, other, third] = making.boards_in_common();
-    making.lie(period, one, liars);
-    making.lie(period, other, liars);
-    making.lie(period, third, t - 1);
+    making.lie(period, one, &liars);
+    making.lie(period, other, &liars);
+    making.lie(period, third, &too_few);
     let backings = making.entries(|entry| matches!(entry, Entry::Backing { .. }));
     making.together(backings.into_iter().map(|entry| Step::Publish { entry }));
     making.wander(20);
@@ -88,10 +92,10 @@ impl Making<'_> {
         [one, one ^ others, one ^ least].map(|board| board | 1 << item)
     }
 
-    /// So many of the dishonest peers back a board.
-    fn lie(&mut self, period: usize, board: u64, count: usize) {
-        let liars = self.random.drawn(self.liars().into_iter()).into_iter().take(count);
-        self.together(liars.map(|peer| Step::FalseBacking { peer, period, board }));
+    /// These dishonest peers back a board.
+    fn lie(&mut self, period: usize, board: u64, liars: &[usize]) {
+        let lie = |peer: &usize| Step::FalseBacking { peer: *peer, period, board };
+        self.together(liars.iter().map(lie));
     }
 }
 

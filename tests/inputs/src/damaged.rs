@@ -1,37 +1,38 @@
-//! Tables of either season that are damaged, and any bytes.
+//! Tables of every season that are damaged, and any bytes.
 
 use crate::random::Random;
 use crate::seasons::SORTS;
 use crate::sorts::of_any;
-use crate::tables::{add, head, number, pair_behind};
+use crate::tables::{add, head, item_count, number, pair_behind};
 use crate::tables::{random_items, random_season, random_table};
+use crate::weights;
 use reference::table::write_table_of;
 
 /// A valid table, cut, made longer, with a byte changed, an odd item or twins; one
-/// of every sort that seasons make; or any bytes at all.
+/// of every sort that seasons or weights make; or any bytes at all.
 pub fn damaged_table(random: &mut Random) -> Vec<u8> {
     let mut table = random_table(random, 16);
-    let (head, at) = (head(&table), random.below(table.len()));
+    let (head, m, at) = (head(&table), item_count(&table), random.below(table.len()));
     let (length, more) = (random.below(60), random.between(1, 4));
-    match random.below(12) {
+    match random.below(13) {
         0 => table.truncate(at),
         1 => table.extend(random.bytes(more)),
         2 => table = random.bytes(length),
         3 => table[random.below(head)] = random.below(20) as u8,
         4 => table[at] = table[at].wrapping_add([1, 255][random.below(2)]),
         5 => table[at] = random.bits() as u8,
-        6 => copy_item(random, &mut table, head),
-        7 => move_end(random, &mut table, head),
+        6 => copy_item(random, &mut table, head, m),
+        7 => move_end(random, &mut table, head, m),
         8 => table = with_odd_item(random),
         9 | 10 => table = of_any(&SORTS, random),
+        11 => table = of_any(&weights::SORTS, random),
         _ => {}
     }
     table
 }
 
-/// Writes the bytes of an item over another, as many as there is room for.
-pub fn copy_item(random: &mut Random, bytes: &mut [u8], head: usize) {
-    let m = bytes[head - 1] as usize;
+/// Writes the bytes of one of m items over another, as many as there is room for.
+pub fn copy_item(random: &mut Random, bytes: &mut [u8], head: usize, m: usize) {
     if m > 0 {
         let pairs = [random.below(m), random.below(m)].map(|k| pair_behind(head, k));
         let [(from, length), (to, room)] =
@@ -40,9 +41,8 @@ pub fn copy_item(random: &mut Random, bytes: &mut [u8], head: usize) {
     }
 }
 
-/// Moves the end of an item by a byte; the next one, if any, begins there.
-pub fn move_end(random: &mut Random, bytes: &mut [u8], head: usize) {
-    let m = bytes[head - 1] as usize;
+/// Moves the end of one of m items by a byte; the next one, if any, begins there.
+pub fn move_end(random: &mut Random, bytes: &mut [u8], head: usize, m: usize) {
     let k = random.below(m);
     let by = [1, -1][random.below(2)];
     if k < m {

@@ -2,8 +2,10 @@
 //! all but the last are settled, and now and then a bag that is nearly full.
 
 use crate::closes::{is_hash, Closing, Lack};
+use crate::making::Making;
+use crate::peers::quorum_of;
 use reference::form::Step;
-use reference::state::BAG_SIZE;
+use reference::state::{Entry, BAG_SIZE};
 use reference::union::union_board;
 
 impl Closing<'_, '_> {
@@ -77,21 +79,24 @@ impl Closing<'_, '_> {
         self.making.together(self.making.honest().into_iter().map(|peer| Step::Up { peer }));
     }
 
-    /// One peer fetches from all and all fetch from it; each hears t hashes of the
-    /// board, and who has not backed the period does. Now and then the board is
+    /// One peer fetches from all and all fetch from it; each hears a quorum's hashes of
+    /// the board, and who has not backed the period does. Now and then the board is
     /// published.
     fn settle(&mut self, period: usize) {
-        let (peers, t) = (self.making.honest(), self.making.table.t);
+        let peers = self.making.honest();
         let first = self.making.random.between(1, peers.len());
         let fetch = |peer, other| Step::Fetch { peer, other, period };
         self.making.together(peers.iter().map(|other| fetch(first, *other)));
         self.making.together(peers.iter().map(|peer| fetch(*peer, first)));
         self.making.together(peers.iter().map(|peer| Step::Hash { peer: *peer, period }));
-        let board = self.making.state.peer(first).board(period, t);
+        let board = self.making.state.peer(first).board(&self.making.table, period);
         let hashes = self.making.entries(|entry| is_hash(entry, period, &board));
         for peer in &peers {
-            let heard = self.making.random.drawn(hashes.iter().copied()).into_iter().take(t);
-            self.making.together(heard.map(|entry| Step::Hear { peer: *peer, entry }));
+            let Making { random, table, state, .. } = &mut *self.making;
+            let signer = |entry: &usize| signer(&state.bag[*entry]);
+            let heard = quorum_of(random, table, hashes.iter().copied(), signer);
+            let hears = heard.into_iter().map(|entry| Step::Hear { peer: *peer, entry });
+            self.making.together(hears);
         }
         let due = peers.iter().filter(|peer| self.making.state.peer(**peer).c == period);
         let backs: Vec<Step> = due.map(|peer| Step::Back { peer: *peer }).collect();
@@ -129,10 +134,18 @@ impl Closing<'_, '_> {
         for period in 0..table.periods {
             let board = union_board(table, state, period);
             for peer in (1..=table.n).filter(|peer| state.peer(*peer).p > period) {
-                let own = state.peer(peer).board(period, table.t);
+                let own = state.peer(peer).board(table, period);
                 can.extend(board.difference(&own).map(|item| (peer, period, *item)));
             }
         }
         self.making.random.pick(can.into_iter())
+    }
+}
+
+/// Who signed a hash.
+fn signer(entry: &Entry) -> usize {
+    match entry {
+        Entry::Hash { signer, .. } => *signer,
+        _ => unreachable!("a hash"),
     }
 }

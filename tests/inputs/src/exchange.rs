@@ -2,6 +2,8 @@
 //! hears hashes and backs, in any order that serves and with other calls between.
 
 use crate::closes::{is_hash, Closing, Lack};
+use crate::making::Making;
+use crate::peers::quorum_of;
 use reference::form::Step;
 use reference::state::{Board, Entry};
 use std::collections::{BTreeMap, BTreeSet};
@@ -107,7 +109,7 @@ impl Closing<'_, '_> {
     }
 
     fn board_of(&self, peer: usize) -> Board {
-        self.making.state.peer(peer).board(self.period, self.making.table.t)
+        self.making.state.peer(peer).board(&self.making.table, self.period)
     }
 
     /// The peers that have the same board as some peer send their hashes of it;
@@ -126,13 +128,16 @@ impl Closing<'_, '_> {
     }
 
     fn draw(&mut self) -> Draw {
-        let (n, t, lack) = (self.making.table.n, self.making.table.t, self.lack);
-        let random = &mut *self.making.random;
-        let most = [n, t, random.between(t, n)][random.below(3)];
+        let lack = self.lack;
+        let Making { random, table, .. } = &mut *self.making;
+        let n = table.n;
+        // Of those whom a peer hears beyond a quorum.
+        let more = [100, 0, random.below(100)][random.below(3)];
         let but_own = [Lack::OwnHash, Lack::BackAfterFetches].contains(&lack);
         let mut heard = |peer: usize| {
-            let others = random.drawn((1..=n).filter(|other| !but_own || *other != peer));
-            others.into_iter().take(most).collect()
+            let others = || (1..=n).filter(|other| !but_own || *other != peer);
+            let quorum = quorum_of(random, table, others(), |other| *other);
+            [quorum, random.some_of(more, others())].concat().into_iter().collect()
         };
         let hears = (1..=n).map(&mut heard).collect();
         let peers = random.drawn(1..=n);

@@ -4,9 +4,11 @@ use crate::counted::*;
 use crate::given::{shows_two_days, two_days};
 use crate::odd::*;
 use crate::places::{shows_places, two_places};
+use crate::quorums::shows_weights;
 use crate::random::Random;
 use crate::rehearsed::Rehearsed;
 use crate::runs::*;
+use crate::unequal::unequal;
 use crate::wide::*;
 use reference::state::BAG_SIZE;
 
@@ -26,7 +28,7 @@ const fn kind(times: usize, name: &'static str, make: Make, fits: fn(&Rehearsed)
     Kind { times, name, make, fits }
 }
 
-pub static KINDS: [Kind; 34] = [
+pub static KINDS: [Kind; 36] = [
     kind(34, "a run", run, |r| r.is(|o| o.answers.len() >= 20)),
     kind(16, "shuffled steps", shuffled, |r| r.is(|o| o.answers.len() >= 10)),
     kind(16, "repeated steps", repeated, |r| r.is(|o| o.answers.len() >= 10)),
@@ -65,10 +67,12 @@ pub static KINDS: [Kind; 34] = [
     kind(7, "two boards of one period", two_boards, |r| r.is(has_two_boards)),
     kind(7, "audits from two places", two_places, |r| r.is(|o| shows_places(r, o))),
     kind(7, "a slip posted on two days", two_days, |r| r.is(|o| shows_two_days(r, o))),
-    kind(4, "an audit of the other season", other_audit, |r| {
+    kind(7, "peers of unequal weight", unequal, |r| r.is(|o| shows_weights(r, o))),
+    kind(6, "an audit of another season", other_audit, |r| {
         r.is_refused(3) && has_items_of_any_season(r)
     }),
-    kind(4, "0 and another byte than 2", no_season, |r| r.is_refused(1) && lacks_its_second(r)),
+    kind(4, "0 and a byte of no season", no_season, |r| r.is_refused(1) && lacks_its_second(r)),
+    kind(4, "weights cut short", few_weights, |r| r.is_refused(1) && lacks_weights(r)),
 ];
 
 /// The number of rehearsals in a round.

@@ -3,10 +3,13 @@
 //!
 //! - `random`: a small generator, and the seed of a run
 //! - `sorts`: bytes by sort, and which answers each sort got
-//! - `tables`: valid tables of either season
-//! - `seasons`: sorts of tables by what makes a season, right or wrong
+//! - `tables`, with `peers`: valid tables of every season, and what their peers weigh
+//! - `seasons`, `weights`: sorts of tables by what makes a season, right or wrong, and by
+//!   what weights do
 //! - `damaged`: damaged tables
 //! - `places`: audits of one ballot from two places
+//! - `quorums`, with `unequal`: what weights decide, and numbers of peers would decide
+//!   otherwise
 //! - `given`: slips posted on two days
 //! - `steps`: steps of which many are taken
 //! - `making`: a rehearsal in the making, with the reference's state alongside
@@ -39,9 +42,11 @@ pub mod kinds;
 pub mod making;
 mod odd;
 mod offers;
+pub mod peers;
 pub mod period;
 pub mod places;
 pub mod protocol;
+pub mod quorums;
 pub mod random;
 pub mod refused;
 pub mod rehearsed;
@@ -52,4 +57,6 @@ pub mod sorts;
 pub mod steps;
 pub mod stored;
 pub mod tables;
+pub mod unequal;
+pub mod weights;
 mod wide;

@@ -5,7 +5,7 @@ use crate::making::Making;
 use crate::random::Random;
 use crate::rehearsed::Rehearsed;
 use crate::seasons::{with_audit, with_second};
-use crate::tables::{head, number, pair_at, random_table, Shape};
+use crate::tables::{head, item_count, number, pair_at, random_table, Shape};
 use reference::season::Season;
 use reference::sheet::{read_sheet, write_sheet};
 use reference::table::read_front;
@@ -31,9 +31,9 @@ pub fn damaged(random: &mut Random, number: usize) -> Vec<u8> {
     }
 }
 
-/// A table of one season with an audit of the other, and steps.
+/// A table with an audit of another season, and steps.
 pub fn other_audit(random: &mut Random, number: usize) -> Vec<u8> {
-    let (season, more) = [(Season::New, 0), (Season::Old, 1)][number % 2];
+    let (season, more) = [(Season::New, 0), (Season::Old, 1), (Season::Weighted, 0)][number % 3];
     [with_audit(random, season, more), some_steps(random)].concat()
 }
 
@@ -46,18 +46,33 @@ pub fn has_items_of_any_season(rehearsed: &Rehearsed) -> bool {
     read_sheet(&write_sheet(0, &texts)).is_ok()
 }
 
-/// A table of the new season but for its second byte, and steps.
+/// A table of a season since the old one but for its second byte, and steps.
 pub fn no_season(random: &mut Random, number: usize) -> Vec<u8> {
-    let second = [0, 1, 3, 255][number % 4];
+    let second = [0, 1, 4, 255][number % 4];
     [with_second(random, &[second]), some_steps(random)].concat()
 }
 
 /// Whether only the second byte keeps the input from a season.
 pub fn lacks_its_second(rehearsed: &Rehearsed) -> bool {
+    let is_table = |mark: [u8; 2], rest: &[u8]| read_front(&[&mark, rest].concat()).is_ok();
     match rehearsed.input {
-        [0, second, rest @ ..] => *second != 2 && read_front(&[&[0, 2], rest].concat()).is_ok(),
+        [0, 2 | 3, ..] => false,
+        [0, _, rest @ ..] => is_table([0, 2], rest) || is_table([0, 3], rest),
         _ => false,
     }
+}
+
+/// A weighted table that is cut before its last weight.
+pub fn few_weights(random: &mut Random, _number: usize) -> Vec<u8> {
+    let mut input = Shape::random(random, 16).table_of(random, Season::Weighted);
+    input.truncate(random.between(8, head(&input) - 1));
+    input
+}
+
+/// Whether an input has a weighted table's six fields, and not its weights.
+pub fn lacks_weights(rehearsed: &Rehearsed) -> bool {
+    let input = rehearsed.input;
+    Season::of(input).has_weights() && (8..head(input)).contains(&input.len())
 }
 
 /// Any bytes; any bytes after a table; or steps with small numbers anywhere.
@@ -99,14 +114,13 @@ fn set_pair(input: &mut [u8], k: usize, offset: usize, length: usize) {
 
 /// The number of the last item.
 fn last(input: &[u8]) -> usize {
-    input[head(input) - 1] as usize - 1
+    item_count(input) - 1
 }
 
 /// The end of each pair; none if the pairs are cut short.
 fn ends(rehearsed: &Rehearsed) -> Vec<usize> {
     let input = rehearsed.input;
-    let head = head(input);
-    let m = if input.len() < head { 0 } else { input[head - 1] as usize };
+    let m = item_count(input);
     let whole = if input.len() < pair_at(input, m) { 0 } else { m };
     (0..whole).map(|k| pair(input, k)).map(|(offset, length)| offset + length).collect()
 }

@@ -62,15 +62,16 @@ impl Making<'_> {
         self.together(backings.into_iter().map(|entry| Step::Publish { entry }));
     }
 
-    /// The bag fills when all but one have backed the board, and before it is
-    /// published: then every step that would enter something is refused.
+    /// The bag fills when all but one, who weighs least, have backed the board, and
+    /// before it is published: then every step that would enter something is refused.
     fn fill(&mut self) {
         let items = self.fair_items(2);
         self.gather(0, &items);
         self.agree(0);
-        let (honest, liars) = (self.honest(), self.liars());
+        let (mut honest, liars) = (self.honest(), self.liars());
+        honest.sort_by_key(|peer| self.table.weights[peer - 1]);
         self.back(&honest[1..]);
-        let board = bits(&self.state.peer(honest[0]).board(0, self.table.t));
+        let board = bits(&self.state.peer(honest[0]).board(&self.table, 0));
         let lie = |period, board| {
             liars.iter().map(move |peer| Step::FalseBacking { peer: *peer, period, board })
         };

@@ -2,13 +2,14 @@
 //! where they show.
 
 use crate::making::Making;
+use crate::peers::Peers;
 use crate::random::Random;
 use crate::rehearsed::{Outcome, Rehearsed};
-use crate::tables::{audit, random_items, Shape};
+use crate::tables::{audit, placed_season, random_items};
 use reference::form::Step;
 use reference::season::Season::New;
 use reference::state::State;
-use reference::table::{Item, Kind, Table, LEAST_THRESHOLD};
+use reference::table::{Item, Kind, Table};
 
 /// A ballot that no random item is of.
 pub const FREE: u32 = 1_000;
@@ -29,10 +30,11 @@ pub fn two_places(random: &mut Random, number: usize) -> Vec<u8> {
     let (n, m) = ([1, 2, 3, 4, 5, 6, 16][number % 7], random.below(6));
     let mut texts = [random_items(random, &[New], m), two_audits(random, false)].concat();
     random.shuffle(&mut texts);
-    let shape = Shape { n, periods: random.between(2, 3), m: texts.len() };
-    let t = LEAST_THRESHOLD[n - 1];
-    let liars = random.between(0, n - t);
-    let text = shape.with_liars(random, t, liars, New, &texts);
+    let season = placed_season(random);
+    let peers = Peers::of(random, season, n);
+    let (t, most) = (peers.least(), random.below(n));
+    let liars = peers.liars(random, t, most);
+    let text = peers.table(t, &liars, random.between(2, 3), &texts);
     let mut making = Making::on(random, text);
     let (mut items, audits) = (making.fair_items((40 / n / n).clamp(1, 4)), making.of_ballot(FREE));
     items.retain(|item| !audits.contains(item));

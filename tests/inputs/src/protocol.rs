@@ -157,7 +157,7 @@ impl Making<'_> {
         }
         self.give_all(honest.iter().map(|peer| Step::Hash { peer: *peer, period }));
         // The board that peer 1 finds.
-        let board = bits(&self.state.peer(1).board(period, self.table.t));
+        let board = bits(&self.state.peer(1).board(&self.table, period));
         let liars = self.liars();
         self.give_all(liars.iter().map(|peer| Step::FalseHash { peer: *peer, period, board }));
         self.hear_and_back(period);

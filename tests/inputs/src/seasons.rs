@@ -1,10 +1,11 @@
-//! Tables of either season, and such as are of none, of document 02's P5: each is
-//! right but for what its sort names.
+//! Tables of every season, and such as are of none, of document 02's P5: each is right
+//! but for what its sort names. Those that are about weights are in `weights`.
 
 use crate::places::{two_audits, FREE};
 use crate::random::Random;
 use crate::sorts::{sort, Sort};
-use crate::tables::{add, audit, head, pair_behind, random_items, random_season, Shape};
+use crate::tables::{add, audit, head, item_count, pair_behind};
+use crate::tables::{placed_season, random_items, random_season, Shape};
 use reference::season::Season::{self, New, Old};
 use std::ops::Range;
 
@@ -19,7 +20,7 @@ pub static SORTS: [Sort; 24] = [
     sort("seven bytes in the new season", |random| with_audit(random, New, 2), &[3]),
     sort("a wrong audit and twins", wrong_audit_and_twins, &[3]),
     sort("the other season's items", other_items, &[0, 3]),
-    sort("0 and another byte", |random| with_second(random, &[0, 1, 3, 255]), &[1]),
+    sort("0 and another byte", |random| with_second(random, &[0, 1, 4, 255]), &[1]),
     sort("0 and any other byte", |random| with_second(random, &[]), &[1]),
     sort("the 0 left out", |random| changed(random, New, 0..1, &[]), &[1]),
     sort("a second 0", |random| changed(random, New, 0..0, &[0]), &[1]),
@@ -59,8 +60,9 @@ fn some_items(random: &mut Random, season: Season) -> Vec<Vec<u8>> {
 
 /// Two audits of one ballot, from places that are the same, or not.
 fn with_two_audits(random: &mut Random, same: bool) -> Vec<u8> {
-    let items = [some_items(random, New), two_audits(random, same)].concat();
-    of_texts(random, New, items)
+    let season = placed_season(random);
+    let items = [some_items(random, season), two_audits(random, same)].concat();
+    of_texts(random, season, items)
 }
 
 /// An audit with so many bytes behind its kind.
@@ -86,17 +88,21 @@ fn wrong_audit_and_twins(random: &mut Random) -> Vec<u8> {
     of_texts(random, season, items)
 }
 
-/// Items of one season in a table of the other: without audits they fit.
+/// Items of the old season in a table of a later one, or the reverse: without audits
+/// they fit.
 fn other_items(random: &mut Random) -> Vec<u8> {
-    let [season, other] = if random.once_in(2) { [Old, New] } else { [New, Old] };
+    let placed = placed_season(random);
+    let [season, other] = if random.once_in(2) { [Old, placed] } else { [placed, Old] };
     let items = some_items(random, other);
     of_texts(random, season, items)
 }
 
-/// A table of the new season whose second byte is one of these, or any but 2.
+/// A table of a season since the old one whose second byte is one of these, or any but 2
+/// and 3.
 pub fn with_second(random: &mut Random, bytes: &[u8]) -> Vec<u8> {
-    let mut table = table(random, New, 0);
-    let any = table[1].wrapping_add(random.between(1, 255) as u8);
+    let season = placed_season(random);
+    let mut table = table(random, season, 0);
+    let any = random.between(4, 257) as u8;
     table[1] = random.pick(bytes.iter().copied()).unwrap_or(any);
     table
 }
@@ -133,11 +139,15 @@ fn out_of_range(random: &mut Random) -> Vec<u8> {
 
 /// Every offset is what it would be in the other season.
 fn other_offsets(random: &mut Random) -> Vec<u8> {
-    let season = random_season(random);
+    let (season, by) = [(Old, 2), (New, -2)][random.below(2)];
     let mut table = table(random, season, 1);
-    let (head, by) = (head(&table), if season == Old { 2 } else { -2 });
-    for k in 0..table[head - 1] as usize {
-        add(&mut table, pair_behind(head, k), by);
-    }
+    move_offsets(&mut table, by);
     table
+}
+
+/// Adds to every offset of a table that is not cut off.
+pub fn move_offsets(table: &mut [u8], by: isize) {
+    let (head, length) = (head(table), table.len());
+    let offsets = (0..item_count(table)).map(|k| pair_behind(head, k));
+    offsets.filter(|at| at + 2 <= length).for_each(|at| add(table, at, by));
 }

@@ -6,7 +6,6 @@ use crate::random::Random;
 use crate::sorts::{sort, Sort};
 use crate::tables::{add, audit, number, pair_behind, random_items, random_table};
 use reference::season::Season::{New, Old};
-use reference::season::SEASONS;
 use reference::sheet::write_sheet;
 use std::ops::Range;
 
@@ -49,9 +48,9 @@ pub static SORTS: [Sort; 33] = [
 /// The bytes before the pairs: the period and the count.
 const HEAD: usize = 2;
 
-/// So many items, with audits of one season or of both.
+/// So many items, with audits of either length or of one.
 fn items(random: &mut Random, m: usize) -> Vec<Vec<u8>> {
-    let seasons = [&SEASONS[..], &[Old], &[New]][random.below(3)];
+    let seasons = [&[Old, New][..], &[Old], &[New]][random.below(3)];
     random_items(random, seasons, m)
 }
 
@@ -88,7 +87,7 @@ fn with_more(random: &mut Random, more: Vec<Vec<u8>>) -> Vec<u8> {
 
 /// An audit of one ballot without its place and with it.
 fn audits_of_either_length(random: &mut Random) -> Vec<u8> {
-    let audits = SEASONS.map(|season| audit(random, season, FREE));
+    let audits = [Old, New].map(|season| audit(random, season, FREE));
     with_more(random, audits.into())
 }
 
@@ -161,9 +160,10 @@ fn with_head(random: &mut Random, at: usize) -> Vec<u8> {
     bytes
 }
 
-fn damaged(random: &mut Random, damage: fn(&mut Random, &mut [u8], usize)) -> Vec<u8> {
+fn damaged(random: &mut Random, damage: fn(&mut Random, &mut [u8], usize, usize)) -> Vec<u8> {
     let mut bytes = sheet(random, 2);
-    damage(random, &mut bytes, HEAD);
+    let m = bytes[1] as usize;
+    damage(random, &mut bytes, HEAD, m);
     bytes
 }
 

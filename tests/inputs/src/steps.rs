@@ -1,6 +1,7 @@
 //! Random steps, of which many are taken.
 
 use crate::answers::{last_op, row_of};
+use crate::peers::quorum_of;
 use crate::random::Random;
 use reference::form::{bits, write_step, Step};
 use reference::state::{Entry, State};
@@ -23,10 +24,12 @@ pub fn all_items(m: usize) -> u64 {
 }
 
 /// The next steps of a run: one step, the same one for all peers, or now and then
-/// the whole way of a slip.
+/// the whole way of a slip or of a board.
 pub fn random_steps(random: &mut Random, table: &Table, state: &State) -> Vec<Vec<u8>> {
-    if random.once_in(60) {
-        return slip(random, table, state);
+    match random.below(120) {
+        0 | 1 => return slip(random, table, state),
+        2 if !table.honest.is_empty() => return board(random, table, state),
+        _ => {}
     }
     let choice = random.below(100);
     let step = match choice {
@@ -42,28 +45,75 @@ pub fn random_steps(random: &mut Random, table: &Table, state: &State) -> Vec<Ve
     }
 }
 
+/// Some peers in the order drawn; or those that weigh least come first.
+fn in_turn(random: &mut Random, table: &Table, peers: impl Iterator<Item = usize>) -> Vec<usize> {
+    let mut peers = random.drawn(peers);
+    if random.once_in(2) {
+        peers.sort_by_key(|peer| table.weights[peer - 1]);
+    }
+    peers
+}
+
 /// The way of a slip to its receipt, mostly of one that some peer gave a share for:
-/// each honest peer holds it, signs it and takes signatures in its open period.
+/// each honest peer holds it, signs it and takes signatures in its open period. The
+/// receipt is asked for after each share.
 fn slip(random: &mut Random, table: &Table, state: &State) -> Vec<Vec<u8>> {
     let item = match random.pick(state.shares.iter()) {
         Some((_, _, item)) if !random.once_in(4) => *item,
         _ => random.below(table.m()),
     };
-    let honest = random.drawn(table.honest.iter().copied());
+    let honest = in_turn(random, table, table.honest.iter().copied());
     let period = honest.first().map_or(0, |peer| state.peer(*peer).p);
     let mut steps = vec![Step::Post { item }];
-    let lie = |peer| Step::FalseSignature { peer, period, item };
-    steps.extend(liars(table).into_iter().map(lie));
+    for peer in in_turn(random, table, liars(table).into_iter()) {
+        steps.push(Step::FalseSignature { peer, period, item });
+        if random.once_in(2) {
+            steps.extend([Step::FalseShare { peer, period, item }, Step::Receipt { period, item }]);
+        }
+    }
     steps.extend(honest.iter().map(|peer| Step::Hand { peer: *peer, item }));
     steps.extend(honest.iter().map(|peer| Step::Sign { peer: *peer, item }));
     for peer in honest.iter().copied() {
         let period = state.peer(peer).p;
-        let others = random.drawn(1..=table.n).into_iter().take(table.t + 1);
-        steps.extend(others.map(|other| Step::Take { peer, other, period, item }));
+        let mut others = quorum_of(random, table, 1..=table.n, |other| *other);
+        others.push(random.between(1, table.n));
+        steps.extend(others.into_iter().map(|other| Step::Take { peer, other, period, item }));
     }
-    steps.extend(honest.iter().map(|peer| Step::Share { peer: *peer, item }));
-    steps.push(Step::Receipt { period, item });
+    for peer in honest {
+        steps.extend([Step::Share { peer, item }, Step::Receipt { period, item }]);
+    }
+    written(steps)
+}
+
+fn written(steps: Vec<Step>) -> Vec<Vec<u8>> {
     steps.into_iter().map(|step| write_step(step).to_vec()).collect()
+}
+
+/// The way of a board, whose hashes are there: each honest peer hears them and backs,
+/// and so do liars. It is published after each, as far as that goes.
+fn board(random: &mut Random, table: &Table, state: &State) -> Vec<Vec<u8>> {
+    let peers = in_turn(random, table, 1..=table.n);
+    let first = *peers.iter().find(|peer| table.is_honest(**peer)).expect("an honest peer");
+    let period = state.peer(first).c;
+    let board = state.peer(first).board(table, period);
+    let is_hash = |entry: &Entry| match entry {
+        Entry::Hash { period: q, board: b, .. } => *q == period && *b == board,
+        _ => false,
+    };
+    let hashes: Vec<usize> =
+        (0..state.bag.len()).filter(|entry| is_hash(&state.bag[*entry])).collect();
+    let mut steps = Vec::new();
+    for peer in peers {
+        if table.is_honest(peer) {
+            steps.extend(hashes.iter().map(|entry| Step::Hear { peer, entry: *entry }));
+            steps.push(Step::Back { peer });
+        } else if random.once_in(2) {
+            steps.push(Step::FalseBacking { peer, period, board: bits(&board) });
+        }
+        // The first of these backings, if there was room for it.
+        steps.push(Step::Publish { entry: state.bag.len().min(255) });
+    }
+    written(steps)
 }
 
 /// The step for each peer, and a take for each other too.
@@ -186,7 +236,7 @@ fn or_given(random: &mut Random, state: &State, peer: usize, item: usize) -> usi
 /// The number of a hash entry; mostly one that helps the peer to back.
 fn pick_hash(random: &mut Random, table: &Table, state: &State, peer: usize) -> usize {
     let next = state.peer(peer).c;
-    let own = state.peer(peer).board(next, table.t);
+    let own = state.peer(peer).board(table, next);
     let any = random.once_in(3);
     let fits = |e: &usize| match &state.bag[*e] {
         Entry::Hash { period, board, .. } => any || *period == next && *board == own,

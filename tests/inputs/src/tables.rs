@@ -1,8 +1,8 @@
-//! Random tables that are valid, of either season.
+//! Random tables that are valid, of every season.
 
+use crate::peers::Peers;
 use crate::random::Random;
 use reference::season::{Season, SEASONS};
-use reference::table::{write_table_of, LEAST_THRESHOLD};
 
 /// What a table is asked to have.
 pub struct Shape {
@@ -36,62 +36,53 @@ impl Shape {
 
     /// The same with these texts for items, which may be none.
     pub fn with_texts(self, random: &mut Random, season: Season, texts: &[Vec<u8>]) -> Vec<u8> {
-        let all = u16::MAX >> (16 - self.n);
-        let some = random.bits() as u16;
-        let honest = all & [all, some, some | random.bits() as u16, 0][random.below(31) / 10];
-        let t = threshold(random, self.n);
-        write_table_of(season, self.n as u8, t as u8, honest, self.periods as u8, texts)
+        let peers = Peers::of(random, season, self.n);
+        let t = peers.threshold(random);
+        let honest = any_honest(random, self.n);
+        peers.table_of(t, honest, self.periods, texts)
     }
 
-    /// A valid table with the least threshold, at least so many honest peers, and
-    /// so many liars if that leaves enough.
+    /// A valid table with the least threshold, at least that much honest weight, and so
+    /// many liars if that leaves enough.
     pub fn honest_table(self, random: &mut Random, liars: usize) -> Vec<u8> {
-        let t = LEAST_THRESHOLD[self.n - 1];
-        let liars = liars.min(self.n - t);
-        self.table_with(random, t, liars)
+        let peers = Peers::random(random, self.n);
+        let t = peers.least();
+        let liars = peers.liars(random, t, liars);
+        self.table_with(random, &peers, t, &liars)
     }
 
-    /// A valid table with this threshold and so many liars.
-    pub fn table_with(self, random: &mut Random, t: usize, liars: usize) -> Vec<u8> {
-        let season = random_season(random);
-        let items = random_items(random, &[season], self.m);
-        self.with_liars(random, t, liars, season, &items)
-    }
-
-    /// The same of a season and with these texts for items.
-    pub fn with_liars(
+    /// A valid table with these peers, of whom some are liars, and this threshold.
+    pub fn table_with(
         self,
         random: &mut Random,
+        peers: &Peers,
         t: usize,
-        liars: usize,
-        season: Season,
-        texts: &[Vec<u8>],
+        liars: &[usize],
     ) -> Vec<u8> {
-        let mut peers: Vec<usize> = (0..self.n).collect();
-        random.shuffle(&mut peers);
-        let honest = peers[liars..].iter().fold(0, |set, k| set | 1 << k);
-        write_table_of(season, self.n as u8, t as u8, honest, self.periods as u8, texts)
+        let items = random_items(random, &[peers.season], self.m);
+        peers.table(t, liars, self.periods, &items)
     }
 }
 
-/// Either season, one as often as the other.
+/// Any of so many peers as a set: often all, and now and then none.
+pub fn any_honest(random: &mut Random, n: usize) -> u16 {
+    let (all, some) = (u16::MAX >> (16 - n), random.bits() as u16);
+    all & [all, some, some | random.bits() as u16, 0][random.below(31) / 10]
+}
+
+/// Any season, each as often as the others.
 pub fn random_season(random: &mut Random) -> Season {
     SEASONS[random.below(SEASONS.len())]
+}
+
+/// A season whose audits name their places.
+pub fn placed_season(random: &mut Random) -> Season {
+    [Season::New, Season::Weighted][random.below(2)]
 }
 
 /// The bytes of a valid table with at most so many peers.
 pub fn random_table(random: &mut Random, most_peers: usize) -> Vec<u8> {
     Shape::random(random, most_peers).table(random)
-}
-
-/// The least threshold, or now and then a higher one.
-fn threshold(random: &mut Random, n: usize) -> usize {
-    let least = LEAST_THRESHOLD[n - 1];
-    if random.once_in(3) {
-        random.between(least, n)
-    } else {
-        least
-    }
 }
 
 /// Different items, of few ballot numbers, with audits of the seasons given; now
@@ -123,13 +114,24 @@ fn vote(random: &mut Random, ballot: u32) -> Vec<u8> {
 /// An audit of the season, from one of few places.
 pub fn audit(random: &mut Random, season: Season, ballot: u32) -> Vec<u8> {
     let place = [0, 1, 2, 255][random.below(4)];
-    let place = if season == Season::New { &[place][..] } else { &[] };
+    let place = if season.has_places() { &[place][..] } else { &[] };
     [&ballot.to_be_bytes()[..], &[2], place].concat()
 }
 
-/// The bytes of a table before its pairs, of which the last is the number of items.
+/// Where the header's fields begin in a table.
+pub fn fields_at(table: &[u8]) -> usize {
+    Season::of(table).mark().len()
+}
+
+/// The bytes of a table before its pairs, by the number of peers that it says.
 pub fn head(table: &[u8]) -> usize {
-    Season::of(table).head_length()
+    let n = table.get(fields_at(table)).copied().unwrap_or(0);
+    Season::of(table).head_length(n as usize)
+}
+
+/// The number of items that a table says; 0 if it is cut short.
+pub fn item_count(table: &[u8]) -> usize {
+    table.get(fields_at(table) + 5).copied().unwrap_or(0) as usize
 }
 
 /// The place of pair k's offset in a table, and of its length two bytes on.

@@ -1,25 +1,26 @@
 //! Rehearsals with the most to report, and the longest ones.
 
 use crate::making::Making;
+use crate::peers::Peers;
 use crate::period::posts;
 use crate::random::Random;
 use crate::rehearsed::{Outcome, Rehearsed};
-use crate::tables::{audit, head, random_season, random_table};
+use crate::tables::{audit, fields_at, random_table};
 use reference::form::Step;
 use reference::state::BAG_SIZE;
-use reference::table::{read_front, write_table_of};
+use reference::table::read_front;
 
 /// A table of 8 periods with 64 audits, of which no two clash.
-fn audits(random: &mut Random, n: u8, t: u8, honest: u16) -> Vec<u8> {
-    let season = random_season(random);
-    let items: Vec<Vec<u8>> = (0..64).map(|ballot| audit(random, season, ballot)).collect();
-    write_table_of(season, n, t, honest, 8, &items)
+fn audits(random: &mut Random, n: usize, liars: &[usize]) -> Vec<u8> {
+    let peers = Peers::random(random, n);
+    let items: Vec<Vec<u8>> = (0..64).map(|ballot| audit(random, peers.season, ballot)).collect();
+    peers.table(peers.least(), liars, 8, &items)
 }
 
 /// 16 peers, 8 periods, 64 items: a signer or two for each period and item,
 /// and then every peer fetches everything.
 pub fn databases(random: &mut Random, _number: usize) -> Vec<u8> {
-    let text = audits(random, 16, 11, 0xFFFF);
+    let text = audits(random, 16, &[]);
     let mut making = Making::on(random, text);
     making.together(posts(&making.table));
     for _ in 0..8 {
@@ -44,7 +45,7 @@ pub fn filled_sets(outcome: &Outcome) -> usize {
 /// One dishonest peer: a receipt for each period and item, and as many boards
 /// as the bag takes, the empty one and the whole one among them.
 pub fn boards(random: &mut Random, _number: usize) -> Vec<u8> {
-    let text = audits(random, 1, 1, 0);
+    let text = audits(random, 1, &[1]);
     let mut making = Making::on(random, text);
     making.together(posts(&making.table));
     let shown = || (0..512).map(|k| (k / 64, k % 64));
@@ -87,7 +88,7 @@ pub fn too_long(random: &mut Random, _number: usize) -> Vec<u8> {
 /// One byte too long, with a header that is out of range.
 pub fn long_garbage(random: &mut Random, number: usize) -> Vec<u8> {
     let mut input = too_long(random, number);
-    let fields = head(&input) - 6;
+    let fields = fields_at(&input);
     input[fields + random.below(2)] = 0;
     input
 }

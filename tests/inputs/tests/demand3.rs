@@ -4,11 +4,10 @@
 
 mod common;
 
-use common::{run_under_premise, Run};
+use common::{are_many, run_under_premise, Run};
 use inputs::given::receipted_twice;
 use inputs::places::{is_clash_of_places, receipts_of_places};
 use reference::ideal::reaches_honest_share;
-use reference::season::Season;
 use reference::state::State;
 use reference::step::step;
 use std::collections::{BTreeMap, BTreeSet};
@@ -70,14 +69,22 @@ fn receipted_items_are_on_the_board(run: &Run) {
     }
 }
 
-/// By at least t + h − n of the h honest peers, in that period.
+/// By honest peers of at least t plus the honest weight less W, in that period.
 fn board_items_are_posted_and_signed(run: &Run) {
     for (period, board) in run.state.boards() {
         for item in board {
             assert!(run.ideal.posts.contains(&item));
-            assert!(reaches_honest_share(&run.table, run.ideal.honest_signers(period, item)));
+            assert!(reaches_honest_share(&run.table, &run.ideal.honest_signers(period, item)));
         }
     }
+}
+
+/// The items on boards that fewer than t + h − n honest peers signed.
+fn items_of_few_signers(run: &Run) -> usize {
+    let (table, boards) = (&run.table, run.state.boards());
+    let items = boards.iter().flat_map(|(period, board)| board.iter().map(|item| (*period, *item)));
+    let signers = items.map(|(period, item)| run.ideal.honest_signers(period, item).len());
+    signers.filter(|count| count + table.n < table.t + table.honest_count()).count()
 }
 
 /// The same calls once more: the same answers, and after each of them the
@@ -104,7 +111,9 @@ struct Tally {
     items_on_boards: usize,
     runs_with_receipt_after_board: usize,
     runs_with_clash_refused_in_a_later_period: usize,
-    runs_of_the_new_season: usize,
+    runs_of_seasons: [usize; 3],
+    runs_with_few_honest_peers: usize,
+    items_of_few_signers: usize,
     clashes_of_places: usize,
     receipts_of_places: usize,
     runs_with_a_share_given_before: usize,
@@ -122,7 +131,9 @@ impl Tally {
         self.items_on_boards += boards.iter().map(|(_, board)| board.len()).sum::<usize>();
         self.runs_with_receipt_after_board += receipt_after_board(run) as usize;
         self.runs_with_clash_refused_in_a_later_period += late_clash(run) as usize;
-        self.runs_of_the_new_season += (run.table.season == Season::New) as usize;
+        self.runs_of_seasons[run.table.season as usize] += 1;
+        self.runs_with_few_honest_peers += (run.table.honest_count() < run.table.t) as usize;
+        self.items_of_few_signers += items_of_few_signers(run);
         let clash = |(step, answer): &&(Vec<u8>, u8)| is_clash_of_places(&run.table, step, *answer);
         self.clashes_of_places += run.calls.iter().filter(clash).count();
         self.receipts_of_places += receipts_of_places(&run.table, &run.state);
@@ -138,7 +149,8 @@ impl Tally {
         assert!(self.items_on_boards > 2000);
         assert!(self.runs_with_receipt_after_board > 100);
         assert!(self.runs_with_clash_refused_in_a_later_period > 500);
-        assert!((RUNS / 3..2 * RUNS / 3).contains(&self.runs_of_the_new_season));
+        assert!(self.runs_of_seasons.iter().all(|runs| *runs > RUNS / 4));
+        assert!(self.runs_with_few_honest_peers > 1000 && self.items_of_few_signers > 500);
         assert!(self.clashes_of_places > 300);
         assert!(self.receipts_of_places > 100);
         assert!(self.runs_with_a_share_given_before > 1000);
@@ -178,14 +190,19 @@ fn late_clash(run: &Run) -> bool {
     false
 }
 
-/// The check has teeth: with fewer than t honest peers it fails now and then.
+/// The check has teeth: with too little honest weight it fails now and then, also where
+/// the honest peers are many.
 #[test]
-fn too_few_honest_peers_break_it() {
-    let mut broken = 0;
-    for number in 0..500 {
-        let run = Run::random(number, 4, 3, 2, 25);
-        broken += !equals_ideal_board(&run) as usize;
+fn too_little_honest_weight_breaks_it() {
+    let (mut broken, mut many) = (0, 0);
+    for number in 0..1_500 {
+        let run = Run::with_too_few(number, 4);
+        assert!(run.table.honest_weight() < run.table.t);
+        if !equals_ideal_board(&run) {
+            broken += 1;
+            many += are_many(&run.table, run.table.honest_count()) as usize;
+        }
     }
-    println!("broken {broken} of 500");
-    assert!(broken > 50);
+    println!("broken {broken} of 1,500, {many} of them with many honest peers");
+    assert!(broken > 100 && many > 10);
 }

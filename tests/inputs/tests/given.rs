@@ -1,13 +1,12 @@
 //! Slips posted on two days, of document 02's P6, on random runs: an honest peer
 //! gives shares for an item in one period alone, on every table; that keeps items
-//! from a second receipt, and with fewer than t honest peers not always.
+//! from a second receipt, and with less honest weight than t not always.
 
 mod common;
 
 use common::{run_on_any_table, run_under_premise, Run};
 use inputs::given::{periods_of_shares, receipted_twice};
 use reference::form::{read_step, Step};
-use reference::season::Season;
 use reference::state::State;
 use reference::step::step;
 use std::collections::BTreeSet;
@@ -32,7 +31,7 @@ fn shares_of_one_period(run: &Run) -> BTreeSet<Share> {
 /// No premise: the tables have any number of honest peers, from one up.
 #[test]
 fn shares_of_one_period_on_every_table() {
-    let (mut shares, mut refused, mut too_few, mut new) = (0, 0, 0, 0);
+    let (mut shares, mut refused, mut too_few, mut seasons) = (0, 0, 0, [0; 3]);
     for number in 0..RUNS {
         let run = run_on_any_table(number);
         let given = shares_of_one_period(&run);
@@ -40,22 +39,22 @@ fn shares_of_one_period_on_every_table() {
         assert_eq!(outside.copied().collect::<BTreeSet<Share>>(), given, "run {number}");
         shares += given.len();
         refused += run.was_answered(17) as usize;
-        too_few += (run.was_answered(17) && run.table.honest_count() < run.table.t) as usize;
-        new += (run.was_answered(17) && run.table.season == Season::New) as usize;
+        too_few += (run.was_answered(17) && run.table.honest_weight() < run.table.t) as usize;
+        seasons[run.table.season as usize] += run.was_answered(17) as usize;
     }
     println!("{shares} shares; a 17 in {refused} of {RUNS} runs");
-    println!("with fewer than t honest peers in {too_few}, of the new season in {new}");
+    println!("with less honest weight than t in {too_few}, by seasons {seasons:?}");
     assert!(shares > 5_000 && refused > 300 && too_few > 50);
-    assert!((refused / 3..=2 * refused / 3).contains(&new));
+    assert!(seasons.iter().all(|times| *times > refused / 5));
 }
 
-/// The shares that were refused though the peer held t signers.
+/// The shares that were refused though the peer held a quorum's signatures.
 fn withheld(run: &Run) -> BTreeSet<Share> {
     let (mut state, mut withheld) = (State::fresh(&run.table), BTreeSet::new());
     for (bytes, answer) in &run.calls {
         if let (17, Ok(Step::Share { peer, item })) = (answer, read_step(bytes)) {
             let p = state.peer(peer).p;
-            if state.peer(peer).signers(p, item) >= run.table.t {
+            if run.table.is_quorum(&state.peer(peer).signers(p, item)) {
                 withheld.insert((peer, p, item));
             }
         }
@@ -71,7 +70,7 @@ fn spared(run: &Run) -> usize {
     let is_second = |(period, item): &(usize, usize)| {
         let shares = run.state.shares.union(&withheld);
         let sharers = shares.filter(|share| share.1 == *period && share.2 == *item);
-        sharers.count() >= run.table.t
+        run.table.is_quorum(&sharers.map(|share| share.0).collect())
             && !receipts.contains(&(*period, *item))
             && receipts.iter().any(|receipt| receipt.1 == *item)
     };
@@ -95,13 +94,14 @@ fn what_is_withheld_matters() {
     assert!(runs > 100);
 }
 
-/// The claim has teeth: with one honest peer too few, some items have two receipts.
+/// The claim has teeth: with just too little honest weight, some items have two receipts.
 #[test]
-fn too_few_honest_peers_give_two_receipts() {
-    for (n, t) in [(4, 3), (7, 5)] {
-        let runs = (0..RUNS).map(|number| Run::random(number, n, t, t - 1, 25));
-        let twice = runs.filter(|run| !receipted_twice(&run.state).is_empty()).count();
-        println!("{n} peers, {} of them honest: two receipts in {twice} of {RUNS} runs", t - 1);
-        assert!(twice > 20);
+fn too_little_honest_weight_gives_two_receipts() {
+    for n in [4, 7] {
+        let runs = (0..RUNS).map(|number| Run::with_too_few(number, n));
+        let twice: Vec<Run> = runs.filter(|run| !receipted_twice(&run.state).is_empty()).collect();
+        let weighted = twice.iter().filter(|run| run.table.season.has_weights()).count();
+        println!("{n} peers: two receipts in {} runs, {weighted} weighted", twice.len());
+        assert!(twice.len() > 20 && weighted > 5);
     }
 }

@@ -78,8 +78,8 @@ fn of_every_kind() {
 }
 
 /// Each of the four kinds that are about totals can be missed, and those with two
-/// places and on two days: a rehearsal that keeps but the first step of the op is not
-/// of that kind.
+/// places, on two days and with unequal weights: a rehearsal that keeps but the first
+/// step of the op is not of that kind.
 #[test]
 fn kinds_that_can_be_missed() {
     for (name, op) in [
@@ -89,6 +89,11 @@ fn kinds_that_can_be_missed() {
         ("two boards of one period", 12),
         ("audits from two places", 2),
         ("a slip posted on two days", 5),
+        ("peers of unequal weight", 5),
+        ("peers of unequal weight", 6),
+        ("peers of unequal weight", 9),
+        ("peers of unequal weight", 11),
+        ("peers of unequal weight", 12),
     ] {
         let mut all = (0..round()).map(|number| rehearsal(1, number));
         let (kind, input) = all.find(|(kind, _)| kind.name == name).expect("a kind");

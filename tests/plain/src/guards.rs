@@ -53,7 +53,7 @@ impl Table {
     }
 
     pub fn need_threshold(&self, set: u16) -> Done {
-        refuse_if(set.count_ones() < self.t as u32, SHORT)
+        refuse_if(!self.is_quorum(set), SHORT)
     }
 }
 
@@ -75,10 +75,10 @@ impl State {
         refuse_if(items & !self.posted != 0, UNKNOWN)
     }
 
-    /// Peer j's items with t signers in a period.
+    /// Peer j's items in a period whose signers weigh t.
     pub fn board(&self, table: &Table, j: usize, period: usize) -> u64 {
         let row = self.databases[j][period];
-        let bit = |i: usize| ((row[i].count_ones() >= table.t as u32) as u64) << i;
+        let bit = |i: usize| (table.is_quorum(row[i]) as u64) << i;
         (0..64).fold(0, |board, i| board | bit(i))
     }
 

@@ -1,7 +1,7 @@
 //! The rules as a hand-written engine has them: fast, and without proofs.
 //!
 //! - `texts`: pairs of offset and length, and the items' texts
-//! - `table`: the ballot table, refusals 1 to 4, clash masks
+//! - `table`: the ballot table, refusals 1 to 4, clash masks, weights
 //! - `state`: the bytes of docs/STATE.md as a struct
 //! - `valid`: row 14
 //! - `differ`: whether things all differ, by a small hash table

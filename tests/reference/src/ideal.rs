@@ -71,9 +71,9 @@ impl IdealBoard {
         self.boards.iter().find(|(q, _)| *q == period).map(|(_, board)| board)
     }
 
-    /// The number of honest peers that signed the item in the period.
-    pub fn honest_signers(&self, period: usize, item: usize) -> usize {
-        self.signed.get(&(period, item)).map_or(0, BTreeSet::len)
+    /// The honest peers that signed the item in the period.
+    pub fn honest_signers(&self, period: usize, item: usize) -> BTreeSet<usize> {
+        self.signed.get(&(period, item)).cloned().unwrap_or_default()
     }
 
     fn post(&mut self, item: usize) {
@@ -84,12 +84,12 @@ impl IdealBoard {
         *self.open.entry(peer).or_insert(0) += 1;
     }
 
-    /// The peer joins those that signed. Once these are at least t + h − n,
-    /// the item is received.
+    /// The peer joins those that signed. Once they have the weight that it takes, the
+    /// item is received.
     fn sign(&mut self, table: &Table, peer: usize, item: usize) {
         let period = self.open.get(&peer).copied().unwrap_or(0);
         self.signed.entry((period, item)).or_default().insert(peer);
-        let enough = reaches_honest_share(table, self.honest_signers(period, item));
+        let enough = reaches_honest_share(table, &self.honest_signers(period, item));
         if enough && !self.received.contains(&(period, item)) {
             self.receive(table, period, item);
         }
@@ -142,7 +142,8 @@ impl IdealBoard {
     }
 }
 
-/// At least t + h − n, without falling below 0.
-pub fn reaches_honest_share(table: &Table, count: usize) -> bool {
-    count + table.n >= table.t + table.honest_count()
+/// Whether honest peers have a weight of at least t plus all the honest weight less W,
+/// without falling below 0. With weights of 1 they are at least t + h − n.
+pub fn reaches_honest_share(table: &Table, signers: &BTreeSet<usize>) -> bool {
+    table.weight(signers) + table.whole_weight() >= table.t + table.honest_weight()
 }

@@ -6,7 +6,8 @@
 //!
 //! - `pairs`: pairs of offset and length, and the texts that they mark out
 //! - `season`: of which season a table is, and what that changes
-//! - `table`: the ballot table, its items, the clash, the thresholds
+//! - `header`: the table's header, with the thresholds and weights
+//! - `table`: the ballot table, its items, the clash, the quorum
 //! - `state`: what is held outside and by each peer
 //! - `form`: 13 bytes as a step, or 5
 //! - `refusals`: the refusals that several ops share
@@ -21,6 +22,7 @@
 
 mod false_steps;
 pub mod form;
+mod header;
 pub mod ideal;
 pub mod pairs;
 mod refusals;

@@ -3,6 +3,7 @@
 use crate::state::{Board, State};
 use crate::table::Table;
 use crate::Refusal;
+use std::collections::BTreeSet;
 
 pub type Done = Result<(), Refusal>;
 
@@ -70,7 +71,7 @@ pub fn need_posted(state: &State, item: usize) -> Done {
     refuse_if(!state.posted.contains(&item), Refusal::Unknown)
 }
 
-/// 12: fewer than t.
-pub fn need_threshold(table: &Table, count: usize) -> Done {
-    refuse_if(count < table.t, Refusal::Short)
+/// 12: the peers' weights sum up to less than t.
+pub fn need_quorum(table: &Table, peers: &BTreeSet<usize>) -> Done {
+    refuse_if(!table.is_quorum(peers), Refusal::Short)
 }

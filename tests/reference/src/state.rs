@@ -78,9 +78,10 @@ impl State {
         &mut self.peers[j - 1]
     }
 
-    /// The number of peers whose receipt share on the item is outside.
-    pub fn sharers(&self, period: usize, item: usize) -> usize {
-        self.shares.iter().filter(|share| share.1 == period && share.2 == item).count()
+    /// The peers whose receipt share on the item is outside.
+    pub fn sharers(&self, period: usize, item: usize) -> BTreeSet<usize> {
+        let shares = self.shares.iter().filter(|share| share.1 == period && share.2 == item);
+        shares.map(|share| share.0).collect()
     }
 
     /// The entry enters the bag, if it is not there. 13: 256 others are.
@@ -116,9 +117,9 @@ impl State {
 }
 
 impl Peer {
-    /// The number of signers in the database.
-    pub fn signers(&self, period: usize, item: usize) -> usize {
-        self.database.get(&(period, item)).map_or(0, BTreeSet::len)
+    /// The signers in the database.
+    pub fn signers(&self, period: usize, item: usize) -> BTreeSet<usize> {
+        self.database.get(&(period, item)).cloned().unwrap_or_default()
     }
 
     /// A signature enters the database.
@@ -126,11 +127,12 @@ impl Peer {
         self.database.entry((period, item)).or_default().insert(signer);
     }
 
-    /// The peer's board of a period: the items with t signers in its database.
-    pub fn board(&self, period: usize, t: usize) -> Board {
+    /// The peer's board of a period: the items with t signers, by weight, in its
+    /// database.
+    pub fn board(&self, table: &Table, period: usize) -> Board {
         self.database
             .iter()
-            .filter(|((q, _), signers)| *q == period && signers.len() >= t)
+            .filter(|((q, _), signers)| *q == period && table.is_quorum(signers))
             .map(|((_, item), _)| *item)
             .collect()
     }

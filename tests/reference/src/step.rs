@@ -111,7 +111,7 @@ fn take(
     Ok(())
 }
 
-/// 5 share: j holds t signers on the item in p; its receipt share goes
+/// 5 share: j holds t signers, by weight, on the item in p; its receipt share goes
 /// outside. Only for the open period. 17: j gave one for the item in an earlier
 /// period.
 fn share(table: &Table, state: &mut State, j: usize, item: usize) -> Done {
@@ -122,16 +122,16 @@ fn share(table: &Table, state: &mut State, j: usize, item: usize) -> Done {
     let p = need_open(table, state, j)?;
     let given = state.shares.iter().any(|(k, q, i)| *k == j && *q < p && *i == item);
     refuse_if(given, Refusal::Given)?;
-    need_threshold(table, state.peer(j).signers(p, item))?;
+    need_quorum(table, &state.peer(j).signers(p, item))?;
     state.shares.insert((j, p, item));
     Ok(())
 }
 
-/// 6 receipt: t sharers.
+/// 6 receipt: t sharers, by weight.
 fn receipt(table: &Table, state: &mut State, period: usize, item: usize) -> Done {
     name_period(table, period)?;
     name_item(table, item)?;
-    need_threshold(table, state.sharers(period, item))?;
+    need_quorum(table, &state.sharers(period, item))?;
     state.receipts.insert((period, item));
     Ok(())
 }
@@ -175,7 +175,7 @@ fn hash(table: &Table, state: &mut State, j: usize, period: usize) -> Done {
     need_honest(table, j)?;
     need_up(state, j)?;
     need_closed(state, j, period)?;
-    let board = state.peer(j).board(period, table.t);
+    let board = state.peer(j).board(table, period);
     state.enter(Entry::Hash { signer: j, period, board })
 }
 
@@ -202,7 +202,7 @@ fn back(table: &Table, state: &mut State, j: usize) -> Done {
     let peer = state.peer(j);
     let period = peer.c;
     refuse_if(period == peer.p, Refusal::Period)?;
-    let board = peer.board(period, table.t);
+    let board = peer.board(table, period);
     let mut signers = BTreeSet::new();
     for entry in &peer.heard {
         if let Entry::Hash { signer, period: q, board: b } = &state.bag[*entry] {
@@ -211,7 +211,7 @@ fn back(table: &Table, state: &mut State, j: usize) -> Done {
             }
         }
     }
-    need_threshold(table, signers.len())?;
+    need_quorum(table, &signers)?;
     state.enter(Entry::Backing { signer: j, period, board })?;
     state.peer_mut(j).c += 1;
     Ok(())
@@ -231,7 +231,7 @@ fn publish(table: &Table, state: &mut State, entry: usize) -> Done {
             }
         }
     }
-    need_threshold(table, signers.len())?;
+    need_quorum(table, &signers)?;
     state.enter(Entry::Board { period, board })
 }
 

@@ -1,11 +1,12 @@
-//! The ballot table: header, pairs, items, clash, thresholds; refusals 1 to 4.
+//! The ballot table: header, pairs, items, clash, quorum; refusals 1 to 4.
 
-use crate::pairs::{last_end, read_pairs, two_bytes, write_pairs, Pair};
+use crate::header::{read_header, Header};
+use crate::pairs::{last_end, read_pairs, write_pairs, Pair};
 use crate::season::Season;
 use crate::Refusal;
 use std::collections::BTreeSet;
 
-/// The least threshold t for n = 1..16.
+/// The least threshold t for n = 1..16, where no peer weighs more than another.
 pub const LEAST_THRESHOLD: [usize; 16] = [1, 2, 3, 3, 4, 5, 5, 6, 7, 7, 8, 9, 9, 10, 11, 11];
 
 /// The most periods that a table has, and the most items.
@@ -20,6 +21,8 @@ pub struct Table {
     pub t: usize,
     /// The honest peers, counted from 1.
     pub honest: BTreeSet<usize>,
+    /// Peer j's weight is `weights[j - 1]`; without weights in the table it is 1.
+    pub weights: Vec<usize>,
     /// P, the number of periods.
     pub periods: usize,
     /// The m items, counted from 0.
@@ -40,18 +43,9 @@ pub enum Kind {
     Vote(Vec<u8>),
     /// Of the old season.
     Audit,
-    /// Of the new season, with the place that made it.
+    /// Of the seasons since, with the place that made it.
     PlacedAudit(u8),
     Cancellation,
-}
-
-struct Header {
-    season: Season,
-    n: usize,
-    t: usize,
-    honest: u16,
-    periods: usize,
-    m: usize,
 }
 
 impl Table {
@@ -66,6 +60,26 @@ impl Table {
     /// h, the number of honest peers.
     pub fn honest_count(&self) -> usize {
         self.honest.len()
+    }
+
+    /// The sum of peers' weights.
+    pub fn weight(&self, peers: &BTreeSet<usize>) -> usize {
+        peers.iter().map(|j| self.weights[j - 1]).sum()
+    }
+
+    /// W, the sum of all weights.
+    pub fn whole_weight(&self) -> usize {
+        self.weights.iter().sum()
+    }
+
+    /// The honest peers' weight.
+    pub fn honest_weight(&self) -> usize {
+        self.weight(&self.honest)
+    }
+
+    /// Whether the weights of peers sum up to t.
+    pub fn is_quorum(&self, peers: &BTreeSet<usize>) -> bool {
+        self.weight(peers) >= self.t
     }
 
     /// Whether items i and k of the table clash.
@@ -113,7 +127,7 @@ fn from_different_places(x: &Item, y: &Item) -> bool {
 /// A table that is all of the bytes given.
 pub fn read_table(bytes: &[u8]) -> Result<Table, Refusal> {
     let (header, pairs) = read_start(bytes)?;
-    if last_end(&pairs, header.season.head_length()) != bytes.len() {
+    if last_end(&pairs, header.length()) != bytes.len() {
         return Err(Refusal::Pairs);
     }
     finish(bytes, header, &pairs)
@@ -123,7 +137,7 @@ pub fn read_table(bytes: &[u8]) -> Result<Table, Refusal> {
 /// last pair's end.
 pub fn read_front(input: &[u8]) -> Result<(Table, usize), Refusal> {
     let (header, pairs) = read_start(input)?;
-    let end = last_end(&pairs, header.season.head_length());
+    let end = last_end(&pairs, header.length());
     if end > input.len() {
         return Err(Refusal::Pairs);
     }
@@ -133,40 +147,8 @@ pub fn read_front(input: &[u8]) -> Result<(Table, usize), Refusal> {
 /// The header and the pairs: 1, and 2 but for the table's end.
 fn read_start(bytes: &[u8]) -> Result<(Header, Vec<Pair>), Refusal> {
     let header = read_header(bytes)?;
-    let head = header.season.head_length();
-    let pairs = read_pairs(bytes, head, header.m).ok_or(Refusal::Pairs)?;
+    let pairs = read_pairs(bytes, header.length(), header.m).ok_or(Refusal::Pairs)?;
     Ok((header, pairs))
-}
-
-/// 1: header cut short, or a header field out of range.
-fn read_header(bytes: &[u8]) -> Result<Header, Refusal> {
-    let season = Season::of(bytes);
-    if bytes.len() < season.head_length() {
-        return Err(Refusal::Header);
-    }
-    let fields = &bytes[season.mark().len()..];
-    let header = Header {
-        season,
-        n: fields[0] as usize,
-        t: fields[1] as usize,
-        honest: two_bytes(fields, 2) as u16,
-        periods: fields[4] as usize,
-        m: fields[5] as usize,
-    };
-    if in_range(&header) {
-        Ok(header)
-    } else {
-        Err(Refusal::Header)
-    }
-}
-
-fn in_range(header: &Header) -> bool {
-    let n = header.n;
-    (1..=16).contains(&n)
-        && (LEAST_THRESHOLD[n - 1]..=n).contains(&header.t)
-        && peers_of(header.honest).iter().all(|k| *k <= n)
-        && (1..=MOST_PERIODS).contains(&header.periods)
-        && header.m <= MOST_ITEMS
 }
 
 fn finish(bytes: &[u8], header: Header, pairs: &[Pair]) -> Result<Table, Refusal> {
@@ -174,7 +156,8 @@ fn finish(bytes: &[u8], header: Header, pairs: &[Pair]) -> Result<Table, Refusal
         season: header.season,
         n: header.n,
         t: header.t,
-        honest: peers_of(header.honest),
+        honest: header.honest,
+        weights: header.weights,
         periods: header.periods,
         items: read_items(bytes, pairs, |kind| header.season.has(kind))?,
     })
@@ -220,18 +203,13 @@ fn read_item(text: &[u8]) -> Result<Item, Refusal> {
     Ok(Item { ballot, kind })
 }
 
-/// The peers of a 2-byte set: bit k−1 is peer k.
-fn peers_of(set: u16) -> BTreeSet<usize> {
-    (1..=16).filter(|k| set >> (k - 1) & 1 == 1).collect()
-}
-
 /// The bytes of a table of the old season, its fields in document 01's order.
 /// Nothing is checked.
 pub fn write_table(n: u8, t: u8, honest: u16, periods: u8, items: &[Vec<u8>]) -> Vec<u8> {
     write_table_of(Season::Old, n, t, honest, periods, items)
 }
 
-/// The same of a season.
+/// The same of a season; of the weighted one with weights of 1.
 pub fn write_table_of(
     season: Season,
     n: u8,
@@ -240,7 +218,33 @@ pub fn write_table_of(
     periods: u8,
     items: &[Vec<u8>],
 ) -> Vec<u8> {
+    let weights = vec![1; if season.has_weights() { n as usize } else { 0 }];
+    write_parts(season, n, &weights, [t, periods], honest, items)
+}
+
+/// The bytes of a weighted table, which has as many peers as weights. Nothing is
+/// checked.
+pub fn write_weighted(
+    weights: &[u8],
+    t: u8,
+    honest: u16,
+    periods: u8,
+    items: &[Vec<u8>],
+) -> Vec<u8> {
+    write_parts(Season::Weighted, weights.len() as u8, weights, [t, periods], honest, items)
+}
+
+/// Mark, fields, weights, pairs, texts.
+fn write_parts(
+    season: Season,
+    n: u8,
+    weights: &[u8],
+    [t, periods]: [u8; 2],
+    honest: u16,
+    items: &[Vec<u8>],
+) -> Vec<u8> {
     let [high, low] = honest.to_be_bytes();
-    let header = [n, t, high, low, periods, items.len() as u8];
-    [season.mark(), &header, &write_pairs(season.head_length(), items)].concat()
+    let fields = [n, t, high, low, periods, items.len() as u8];
+    let pairs = write_pairs(season.head_length(n as usize), items);
+    [season.mark(), &fields, weights, &pairs].concat()
 }

@@ -18,8 +18,8 @@ pub fn union(state: &State, period: usize) -> BTreeMap<usize, BTreeSet<usize>> {
     union
 }
 
-/// The items with t signers in the union of the databases of a period.
+/// The items with t signers, by weight, in the union of the databases of a period.
 pub fn union_board(table: &Table, state: &State, period: usize) -> Board {
-    let reach = |(_, signers): &(usize, BTreeSet<usize>)| signers.len() >= table.t;
-    union(state, period).into_iter().filter(reach).map(|(item, _)| item).collect()
+    let has_quorum = |(_, signers): &(usize, BTreeSet<usize>)| table.is_quorum(signers);
+    union(state, period).into_iter().filter(has_quorum).map(|(item, _)| item).collect()
 }

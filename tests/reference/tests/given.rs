@@ -64,7 +64,7 @@ fn the_slip_posted_on_two_days() {
         close(&mut run);
         run.done(&[Step::Post { item: 0 }]);
         gather(&mut run, 1, 0);
-        assert_eq!([1, 2, 3].map(|peer| run.state.peer(peer).signers(1, 0)), [4, 4, 4]);
+        assert_eq!([1, 2, 3].map(|peer| run.state.peer(peer).signers(1, 0).len()), [4, 4, 4]);
         assert_eq!(shares(&mut run), [17, 17, 17]);
         assert_eq!(run.call(Step::Receipt { period: 1, item: 0 }), 12);
         // The late receipt of the first day.
@@ -109,7 +109,7 @@ fn order_of_given() {
     run.done(&[Step::Down { peer: 1 }]);
     assert_eq!(run.call(share(1)), 8);
     run.done(&[Step::Up { peer: 1 }]);
-    assert_eq!(run.state.peer(1).signers(1, 0), 0);
+    assert_eq!(run.state.peer(1).signers(1, 0), [].into());
     assert_eq!(shares(&mut run), [17, 12, 12]);
     for _ in 1..PERIODS {
         close(&mut run);

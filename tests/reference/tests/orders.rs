@@ -50,7 +50,7 @@ fn order_of_take() {
     run.done(&[Step::FalseSignature { peer: 4, period: 0, item: 0 }]);
     assert_eq!(run.call(take(0)), 0);
     assert_eq!(run.call(take(0)), 0);
-    assert_eq!(run.state.peer(1).signers(0, 0), 1);
+    assert_eq!(run.state.peer(1).signers(0, 0), [4].into());
     // Its own signature, and one for a closed period, may be taken too.
     run.done(&[Step::Hand { peer: 1, item: 0 }, Step::Sign { peer: 1, item: 0 }]);
     run.done(&[Step::Close { peer: 1 }, Step::Close { peer: 1 }]);

@@ -1,4 +1,5 @@
-//! Tables of both seasons, of document 02's P5, their bytes reckoned by hand.
+//! Tables of the old season and the new, of document 02's P5, their bytes reckoned by
+//! hand; `weights` has those with weights.
 
 mod common;
 
@@ -34,7 +35,8 @@ fn fields_behind_the_mark() {
     assert_eq!(placed(&[placed_audit(7, 5)]), PLACED);
 }
 
-/// After a 0 only 2 is a season's, whatever follows.
+/// After a 0 only 2 makes the new season, whatever follows. With 3 the weights are not
+/// there, or the first is 0.
 #[test]
 fn second_bytes() {
     for second in 0..=255 {
@@ -69,7 +71,7 @@ fn cut_short() {
 
 #[test]
 fn header_fields() {
-    check_thresholds(&[0, 2]);
+    check_thresholds(&[0, 2], &[]);
     for byte in 0..=255 {
         let periods = if (1..=8).contains(&byte) { 0 } else { 1 };
         assert_eq!(both(&[0, 2, 1, 1, 0, 1, byte, 0]), periods, "{byte} periods");
@@ -173,6 +175,7 @@ fn rehearsals() {
         rehearse(&bytes)
     };
     assert_eq!(altered(1, 3), b"refused 1\n");
+    assert_eq!(altered(1, 4), b"refused 1\n");
     assert_eq!(altered(0, 1), b"refused 1\n");
     assert_eq!(altered(9, 10), b"refused 2\n");
     assert_eq!(altered(11, 5), b"refused 3\n");

@@ -9,7 +9,7 @@ use reference::table::{read_front, read_table};
 
 #[test]
 fn header_fields() {
-    check_thresholds(&[]);
+    check_thresholds(&[], &[]);
     for periods in 0..=255 {
         let expected = if (1..=8).contains(&periods) { 0 } else { 1 };
         assert_eq!(both(&[1, 1, 0, 1, periods, 0]), expected);
@@ -78,7 +78,7 @@ fn pairs_before_items() {
 
 #[test]
 fn items() {
-    for (season, audit) in [(Season::Old, 5), (Season::New, 6)] {
+    for (season, audit) in [(Season::Old, 5), (Season::New, 6), (Season::Weighted, 6)] {
         let one = |item: Vec<u8>| both(&table_bytes_of(season, 3, 3, &[1], 1, &[item]));
         for (length, kind) in (0..=40).flat_map(|length| (0..=5).map(move |kind| (length, kind))) {
             let mut item = vec![0; length];

@@ -32,7 +32,7 @@ fn no_database_alone_has_three() {
     let signers = [(0, [1, 2, 4].into()), (1, [2, 3].into()), (3, [1, 2, 3, 4].into())];
     assert_eq!(union(&run.state, 0), signers.into());
     assert_eq!(board(&run, 0), [0, 3]);
-    assert!((1..=4).all(|j| run.state.peer(j).board(0, 3).is_empty()));
+    assert!((1..=4).all(|j| run.state.peer(j).board(&run.table, 0).is_empty()));
 }
 
 /// Peer 2's signature on item 1 is in four databases, and peer 3's in two: that

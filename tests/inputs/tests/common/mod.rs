@@ -2,13 +2,14 @@
 #![allow(dead_code)]
 
 use inputs::making::Making;
+use inputs::peers::Peers;
 use inputs::random::Random;
 use inputs::tables::Shape;
 use reference::form::{read_step, Step};
 use reference::ideal::IdealBoard;
 use reference::state::State;
 use reference::step::step;
-use reference::table::Table;
+use reference::table::{Table, LEAST_THRESHOLD};
 
 /// A run with what it came to, on the reference and on the ideal board.
 pub struct Run {
@@ -20,14 +21,30 @@ pub struct Run {
 }
 
 impl Run {
-    /// A random run on a table of so many peers.
-    pub fn random(number: usize, n: usize, t: usize, honest: usize, bursts: usize) -> Run {
-        let mut random = Random::new(SEED, number);
+    /// A random run on a table with this threshold, of whose peers these are honest.
+    fn random(
+        random: &mut Random,
+        peers: &Peers,
+        t: usize,
+        honest: &[usize],
+        bursts: usize,
+    ) -> Run {
+        let n = peers.weights.len();
+        let liars: Vec<usize> = (1..=n).filter(|peer| !honest.contains(peer)).collect();
         let shape = Shape { n, periods: random.between(1, 3), m: random.between(1, 9) };
-        let text = shape.table_with(&mut random, t, n - honest);
-        let mut making = Making::on(&mut random, text);
+        let text = shape.table_with(random, peers, t, &liars);
+        let mut making = Making::on(random, text);
         making.run_in_bursts(bursts);
         Run::of(making.table, making.steps)
+    }
+
+    /// A random run on a table of so many peers with the least threshold, where the
+    /// honest weight is just too little.
+    pub fn with_too_few(number: usize, n: usize) -> Run {
+        let random = &mut Random::new(SEED, number);
+        let peers = Peers::random(random, n);
+        let honest = peers.within(random, peers.least() - 1);
+        Run::random(random, &peers, peers.least(), &honest, 25)
     }
 
     fn of(table: Table, steps: Vec<Vec<u8>>) -> Run {
@@ -61,7 +78,7 @@ impl Run {
 /// The runs are the same ones each time.
 const SEED: u64 = 3;
 
-/// A run under the premise: t honest peers of n, and 3t > 2n.
+/// A run under the premise: an honest weight of t, of W in all, and 3t > 2W.
 pub fn run_under_premise(number: usize) -> Run {
     run_with(number, |t| t)
 }
@@ -71,12 +88,20 @@ pub fn run_on_any_table(number: usize) -> Run {
     run_with(number, |_| 1)
 }
 
-/// A run with at least so many honest peers, given t.
+/// A run with at least so much honest weight, given t.
 fn run_with(number: usize, least: fn(usize) -> usize) -> Run {
-    let mut random = Random::new(!SEED, number);
+    let random = &mut Random::new(!SEED, number);
     let most = if random.chance(10) { 16 } else { 6 };
     let n = random.between(1, most);
-    let t = random.between(2 * n / 3 + 1, n);
-    let honest = random.between(least(t), n);
-    Run::random(number, n, t, honest, random.between(5, 30))
+    let peers = Peers::random(random, n);
+    let t = random.between(peers.least(), peers.sum());
+    let weight = random.between(least(t), peers.sum());
+    let honest = peers.reaching(random, weight);
+    let bursts = random.between(5, 30);
+    Run::random(random, &peers, t, &honest, bursts)
+}
+
+/// As many peers as would be a quorum if no peer weighed more than another.
+pub fn are_many(table: &Table, peers: usize) -> bool {
+    peers >= LEAST_THRESHOLD[table.n - 1]
 }

@@ -5,7 +5,7 @@ use reference::form::{write_step, Step};
 use reference::season::Season;
 use reference::state::State;
 use reference::step::step;
-use reference::table::{read_front, read_table, write_table_of, Table};
+use reference::table::{read_front, read_table, write_table_of, write_weighted, Table};
 
 pub fn vote(ballot: u32, preferences: &[u8]) -> Vec<u8> {
     [&ballot.to_be_bytes()[..], &[1], preferences].concat()
@@ -56,8 +56,22 @@ pub fn table_bytes_of(
     periods: u8,
     items: &[Vec<u8>],
 ) -> Vec<u8> {
-    let set = honest.iter().fold(0, |set, k| set | 1 << (k - 1));
-    write_table_of(season, n, t, set, periods, items)
+    write_table_of(season, n, t, set_of(honest), periods, items)
+}
+
+/// The bytes of a weighted table, its weights and its honest peers listed.
+pub fn weighted(
+    weights: &[u8],
+    t: u8,
+    honest: &[usize],
+    periods: u8,
+    items: &[Vec<u8>],
+) -> Vec<u8> {
+    write_weighted(weights, t, set_of(honest), periods, items)
+}
+
+fn set_of(peers: &[usize]) -> u16 {
+    peers.iter().fold(0, |set, k| set | 1 << (k - 1))
 }
 
 /// The table's number when it stands alone; 0 if taken.
@@ -77,12 +91,12 @@ pub fn both(bytes: &[u8]) -> u8 {
 }
 
 /// Every n and t, in a header behind what its season starts with: taken from document
-/// 01's least threshold for n up to n.
-pub fn check_thresholds(mark: &[u8]) {
+/// 01's least threshold for n up to n. The weight, if there is one, is each peer's.
+pub fn check_thresholds(mark: &[u8], weight: &[u8]) {
     let least = [1, 2, 3, 3, 4, 5, 5, 6, 7, 7, 8, 9, 9, 10, 11, 11];
     for (n, t) in (0..=255u8).flat_map(|n| (0..=255u8).map(move |t| (n, t))) {
         let taken = (1..=16).contains(&n) && t >= least[n as usize - 1] && t <= n;
-        let table = [mark, &[n, t, 0, 0, 1, 0]].concat();
+        let table = [mark, &[n, t, 0, 0, 1, 0], &weight.repeat(n as usize)].concat();
         assert_eq!(both(&table) == 0, taken, "n {n} t {t}");
     }
 }
