@@ -52,10 +52,12 @@ static size_t number_at(const uint8_t *at) {
 }
 
 /* The length of the table at the front of a rehearsal: it ends where its last pair says. One that starts with 0 is of
- * season 2. */
+ * season 2 or 3, and in season 3 its pairs stand behind a weight for each peer. */
 static size_t length_of_table(const uint8_t *input) {
     size_t header_at = input[0] == 0 ? BOARD_SEASON_LENGTH : 0;
-    size_t pairs_at = header_at + BOARD_TABLE_PAIRS_AT;
+    int has_weights = header_at > 0 && input[BOARD_SEASON_AT] == BOARD_SEASON_THIRD;
+    size_t weights = has_weights ? input[header_at + BOARD_TABLE_PEERS_AT] : 0;
+    size_t pairs_at = header_at + BOARD_TABLE_PAIRS_AT + weights;
     size_t pairs_end = pairs_at + BOARD_PAIR_LENGTH * (size_t)input[header_at + BOARD_TABLE_ITEMS_AT];
     const uint8_t *last = input + pairs_end - BOARD_PAIR_LENGTH;
     return pairs_end == pairs_at ? pairs_end

@@ -36,8 +36,9 @@ extern "C" {
  * 3: sheets: the answer 16, a layout and four functions.
  * 4: tables of season 2, whose audits name their place.
  * 5: the answer 17: a peer gives its share for an item in one period only.
- * 6: shrinking: the answer 18 and two functions. */
-#define BOARD_VERSION 6
+ * 6: shrinking: the answer 18 and two functions.
+ * 7: tables of season 3, whose peers have weights. */
+#define BOARD_VERSION 7
 
 /* The answers, by their words. A number that is not here is a refusal too. */
 enum board_answer {
@@ -85,8 +86,11 @@ enum board_op {
 };
 
 /* The most that a table can have, and the most entries of a bag. Peers count
- * from 1; periods, items and entries from 0. */
+ * from 1; periods, items and entries from 0. What a peer can weigh in season 3;
+ * in every other table each peer weighs 1. */
 #define BOARD_PEERS_MOST 16
+#define BOARD_WEIGHT_LEAST 1
+#define BOARD_WEIGHT_MOST 4
 #define BOARD_PERIODS_MOST 8
 #define BOARD_ITEMS_MOST 64
 #define BOARD_ENTRIES_MOST 256
@@ -103,19 +107,25 @@ enum board_op {
 #define BOARD_STEP_BOARD_AT 5 /* 8 bytes, high first: the bit worth 2^i is item i */
 
 /* A table: the header's fields, then a pair for each item, then the items.
- * Numbers of several bytes have their high byte first. A table of season 2 has
- * the bytes 0 and 2 before its header; every place below is then
- * BOARD_SEASON_LENGTH more. No other table starts with 0. */
+ * Numbers of several bytes have their high byte first. A table of season 2 or 3
+ * has the bytes 0 and 2, or 0 and 3, before its header; every place below is then
+ * BOARD_SEASON_LENGTH more. No other table starts with 0.
+ * In season 3 a weight for each peer, a byte each, stands between header and
+ * pairs, which begin as many bytes later as there are peers. The threshold is
+ * then compared with what the peers weigh; in every other table with their
+ * number. */
 #define BOARD_SEASON_AT 1
 #define BOARD_SEASON_SECOND 2
+#define BOARD_SEASON_THIRD 3
 #define BOARD_SEASON_LENGTH 2
 #define BOARD_TABLE_PEERS_AT 0
 #define BOARD_TABLE_THRESHOLD_AT 1
 #define BOARD_TABLE_HONEST_AT 2 /* 2 bytes: the bit worth 2^(k - 1) is peer k */
 #define BOARD_TABLE_PERIODS_AT 4
 #define BOARD_TABLE_ITEMS_AT 5
+#define BOARD_TABLE_WEIGHTS_AT 6 /* season 3: the weight of peer k is k - 1 bytes later */
 #define BOARD_TABLE_PAIRS_AT 6
-#define BOARD_TABLE_MOST 2632   /* no table is longer */
+#define BOARD_TABLE_MOST 2648   /* no table is longer */
 
 /* A sheet, which is one board: its period, the number of its items, then a pair
  * for each item, then the items, all as in a table. */
@@ -130,7 +140,7 @@ enum board_op {
 #define BOARD_PAIR_SIZE_AT 2   /* 2 bytes */
 
 /* An item: 4 bytes of ballot number, the kind, and then of a vote its
- * preferences, of an audit of season 2 its place. */
+ * preferences, of an audit of season 2 or 3 its place. */
 #define BOARD_ITEM_BALLOT_AT 0
 #define BOARD_ITEM_KIND_AT 4
 #define BOARD_ITEM_PREFERENCES_AT 5

@@ -17,8 +17,9 @@ void put_number(uint8_t *at, size_t number, int bytes) {
     }
 }
 
-/* Where the header begins: a table of the new season starts with 0 and 2. */
+/* Where the header begins: behind what tells the season. And how many weights stand behind it. */
 static uint8_t *header = table;
+static int weights;
 
 static void put_fields(int peers, int threshold, int honest, int periods, int items) {
     header[BOARD_TABLE_PEERS_AT] = (uint8_t)peers;
@@ -32,18 +33,37 @@ static void put_fields(int peers, int threshold, int honest, int periods, int it
 void put_header(int peers, int threshold, int honest, int periods, int items) {
     memset(table, 0, sizeof table);
     header = table;
+    weights = 0;
     put_fields(peers, threshold, honest, periods, items);
+}
+
+/* A table of a season that its first bytes tell. */
+static void put_season(int season, int weighed) {
+    memset(table, 0, sizeof table);
+    table[BOARD_SEASON_AT] = (uint8_t)season;
+    header = table + BOARD_SEASON_LENGTH;
+    weights = weighed;
 }
 
 void put_new_header(int peers, int threshold, int honest, int periods, int items) {
-    memset(table, 0, sizeof table);
-    table[BOARD_SEASON_AT] = BOARD_SEASON_SECOND;
-    header = table + BOARD_SEASON_LENGTH;
+    put_season(BOARD_SEASON_SECOND, 0);
     put_fields(peers, threshold, honest, periods, items);
 }
 
+void put_weighted_header(int peers, int weight, int threshold, int honest, int periods, int items) {
+    put_season(BOARD_SEASON_THIRD, peers);
+    put_fields(peers, threshold, honest, periods, items);
+    for (int k = 1; k <= peers; k++) {
+        put_weight(k, weight);
+    }
+}
+
+void put_weight(int k, int weight) {
+    header[BOARD_TABLE_WEIGHTS_AT + k - 1] = (uint8_t)weight;
+}
+
 uint8_t *pair_of(int k) {
-    return header + BOARD_TABLE_PAIRS_AT + BOARD_PAIR_LENGTH * k;
+    return header + BOARD_TABLE_PAIRS_AT + weights + BOARD_PAIR_LENGTH * k;
 }
 
 void put_item(int k, int ballot, int kind, int more) {

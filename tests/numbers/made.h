@@ -26,10 +26,13 @@ void put_table(void);
 /* A number of so many bytes, high byte first. */
 void put_number(uint8_t *at, size_t number, int bytes);
 
-/* A header without items behind it, of the old season or of the new; and item k at
- * the table's end, with so many bytes behind its kind. */
+/* A header without items behind it, of the old season, of the new, or of the one
+ * with weights, where all are the same; the weight of peer k; and item k at the
+ * table's end, with so many bytes behind its kind. */
 void put_header(int peers, int threshold, int honest, int periods, int items);
 void put_new_header(int peers, int threshold, int honest, int periods, int items);
+void put_weighted_header(int peers, int weight, int threshold, int honest, int periods, int items);
+void put_weight(int k, int weight);
 void put_item(int k, int ballot, int kind, int more);
 
 /* The pair of item k. */

@@ -120,9 +120,9 @@ static void check_order(void) {
     CHECK(written(PERIODS, 0) == BOARD_ITEM);
 }
 
-/* Of the new season: an audit with its place, a vote and a cancellation, of which the first two are on the board. */
-static void check_new_season(void) {
-    put_new_header(1, 1, 1, 1, 3);
+/* Of a season with places: an audit with its place, a vote and a cancellation, of which the first two are on the
+ * board. */
+static void check_placed(void) {
     put_item(0, 7, BOARD_ITEM_AUDIT, 1);
     put_item(1, 8, BOARD_ITEM_VOTE, BOARD_PREFERENCES_MOST);
     put_item(2, 7, BOARD_ITEM_CANCELLATION, 0);
@@ -212,7 +212,11 @@ void check_sheet_numbers(void) {
     put_table();
     check_written();
     check_order();
-    check_new_season();
+    put_new_header(1, 1, 1, 1, 3);
+    check_placed();
+    check_read(BOARD_DONE);
+    put_weighted_header(1, BOARD_WEIGHT_MOST, BOARD_WEIGHT_MOST, 1, 1, 3);
+    check_placed();
     check_read(BOARD_DONE);
     check_longest();
     check_read(BOARD_DONE);

@@ -100,10 +100,33 @@ static void check_order(void) {
     check_refused(BOARD_ITEM);
 }
 
+/* Peer 1 weighs 4, the three others 1 each, and the threshold is 5. Peer 2 knows all four signers, gives its share, and
+ * in the next period gives no other. Peer 1's signature came to it last and is tried first, but the three others weigh
+ * 3; so those of peers 3 and 4 are dropped. */
+static void check_weighed(void) {
+    put_weighted_header(4, BOARD_WEIGHT_LEAST, 5, 15, 2, 1);
+    put_weight(1, BOARD_WEIGHT_MOST);
+    put_item(0, 7, BOARD_ITEM_VOTE, 1);
+    begin();
+    ADD(.op = BOARD_OP_POST);                        /* 1 */
+    for (int j = 4; j >= 1; j--) {
+        ADD(.op = BOARD_OP_HAND, .peer = j);         /* 2, 4, 6, 8 */
+        ADD(.op = BOARD_OP_SIGN, .peer = j);         /* 3, 5, 7, 9 */
+    }
+    for (int k = 4; k >= 1; k--) {
+        ADD(.op = BOARD_OP_TAKE, .peer = 2, .other = k); /* 10 to 13 */
+    }
+    ADD(.op = BOARD_OP_SHARE, .peer = 2);            /* 14 */
+    ADD(.op = BOARD_OP_CLOSE, .peer = 2);            /* 15 */
+    ADD(.op = BOARD_OP_SHARE, .peer = 2);            /* 16: BOARD_GIVEN */
+    check_text("1\n6\n7\n8\n9\n13\n14\n15\n16\n");
+}
+
 void check_shrink_numbers(void) {
     CHECK(board_shrink_most() == BOARD_SHRINK_MOST);
     put_table();
     check_clean();
     check_left();
     check_order();
+    check_weighed();
 }

@@ -123,6 +123,62 @@ static void check_new_season(void) {
     }
 }
 
+/* Two peers that weigh 5 together have a threshold of 4 or 5; with a weight too few there is no header. Of sixteen
+ * each in turn has every weight, and the threshold fits all that are taken. */
+static void check_weights(void) {
+    for (int threshold = 0; threshold < 256; threshold++) {
+        put_weighted_header(2, BOARD_WEIGHT_MOST, threshold, 3, 1, 1);
+        put_weight(2, BOARD_WEIGHT_LEAST);
+        put_item(0, 7, BOARD_ITEM_AUDIT, 1);
+        int fits = threshold == 4 || threshold == 5;
+        CHECK(board_check_table(table, table_length) == (fits ? BOARD_DONE : BOARD_HEADER));
+    }
+    put_weighted_header(2, BOARD_WEIGHT_MOST, 8, 3, 1, 1);
+    size_t weights_at = BOARD_SEASON_LENGTH + BOARD_TABLE_WEIGHTS_AT;
+    for (size_t length = 0; length <= weights_at + 2; length++) {
+        CHECK(board_check_table(table, length) == (length < weights_at + 2 ? BOARD_HEADER : BOARD_PAIRS));
+    }
+    for (int k = 1; k <= BOARD_PEERS_MOST; k++) {
+        for (int weight = 0; weight < 256; weight++) {
+            int fits = BOARD_WEIGHT_LEAST <= weight && weight <= BOARD_WEIGHT_MOST;
+            put_weighted_header(BOARD_PEERS_MOST, 2, 24, 0, 1, 0);
+            put_weight(k, weight);
+            CHECK(board_check_table(table, table_length) == (fits ? BOARD_DONE : BOARD_HEADER));
+        }
+    }
+}
+
+/* An item of the table is signed by a peer, and peer 2 takes the signature. */
+static void check_signed(int j, int item) {
+    CHECK(STEP(.op = BOARD_OP_HAND, .peer = j, .item = item) == BOARD_DONE);
+    CHECK(STEP(.op = BOARD_OP_SIGN, .peer = j, .item = item) == BOARD_DONE);
+    CHECK(STEP(.op = BOARD_OP_TAKE, .peer = 2, .other = j, .item = item) == BOARD_DONE);
+}
+
+/* Peer 1 weighs 4, the three others 1 each, and the threshold is 5. The three are short of it for item 0; for item 1
+ * peers 1 and 2 reach it. */
+static void check_weighed(void) {
+    put_weighted_header(4, BOARD_WEIGHT_LEAST, 5, 15, 1, 2);
+    put_weight(1, BOARD_WEIGHT_MOST);
+    put_item(0, 7, BOARD_ITEM_AUDIT, 1);
+    put_item(1, 8, BOARD_ITEM_VOTE, 1);
+    start();
+    CHECK(STEP(.op = BOARD_OP_POST, .item = 0) == BOARD_DONE);
+    CHECK(STEP(.op = BOARD_OP_POST, .item = 1) == BOARD_DONE);
+    for (int j = 2; j <= 4; j++) {
+        check_signed(j, 0);
+        CHECK(STEP(.op = BOARD_OP_SHARE, .peer = 2, .item = 0) == BOARD_SHORT);
+    }
+    check_signed(1, 1);
+    CHECK(STEP(.op = BOARD_OP_SHARE, .peer = 2, .item = 1) == BOARD_SHORT);
+    check_signed(2, 1);
+    CHECK(STEP(.op = BOARD_OP_SHARE, .peer = 2, .item = 1) == BOARD_DONE);
+    CHECK(STEP(.op = BOARD_OP_RECEIPT, .item = 1) == BOARD_SHORT);
+    CHECK(STEP(.op = BOARD_OP_TAKE, .peer = 1, .other = 2, .item = 1) == BOARD_DONE);
+    CHECK(STEP(.op = BOARD_OP_SHARE, .peer = 1, .item = 1) == BOARD_DONE);
+    CHECK(STEP(.op = BOARD_OP_RECEIPT, .item = 1) == BOARD_DONE);
+}
+
 static void check_limits(void) {
     put_header(BOARD_PEERS_MOST, BOARD_PEERS_MOST, 0, 1, 0);
     CHECK(board_check_table(table, table_length) == BOARD_DONE);
@@ -132,8 +188,9 @@ static void check_limits(void) {
     CHECK(board_check_table(table, table_length) == BOARD_DONE);
     put_header(1, 1, 1, BOARD_PERIODS_MOST + 1, 0);
     CHECK(board_check_table(table, table_length) == BOARD_HEADER);
+    int heaviest = BOARD_PEERS_MOST * BOARD_WEIGHT_MOST;
     for (int items = BOARD_ITEMS_MOST; items <= BOARD_ITEMS_MOST + 1; items++) {
-        put_new_header(1, 1, 1, 1, items);
+        put_weighted_header(BOARD_PEERS_MOST, BOARD_WEIGHT_MOST, heaviest, 0, 1, items);
         for (int k = 0; k < items; k++) {
             put_item(k, k, BOARD_ITEM_VOTE, BOARD_PREFERENCES_MOST);
         }
@@ -149,5 +206,7 @@ void check_table_numbers(void) {
     check_items();
     check_kinds();
     check_new_season();
+    check_weights();
+    check_weighed();
     check_limits();
 }

@@ -66,6 +66,7 @@ fn told_refusal(input: &[u8], written: Option<&Written>, refusal: Refusal) -> Ve
     let source = written.and_then(|written| match place? {
         Place::Input => None,
         Place::Header => Some(&written.header),
+        Place::Weights => written.weights.as_ref(),
         Place::Item(k) => written.items.get(*k),
     });
     let head = match (source, place) {
@@ -111,8 +112,14 @@ fn told_table(season: Season, table: &Table) -> String {
     let [peers, periods, items] =
         [(table.n, "peer"), (table.periods, "period"), (table.m(), "item")]
             .map(|(number, what)| count(number, what));
+    let weights = match season.has_weights() {
+        true => {
+            format!("weights {}, {} in all; ", comma_list(&table.weights), table.whole_weight())
+        }
+        false => String::new(),
+    };
     let (start, t) = (season.table(), table.t);
-    format!("{start}: {peers}, honest {honest}; threshold {t}; {periods}, {items}")
+    format!("{start}: {peers}, honest {honest}; {weights}threshold {t}; {periods}, {items}")
 }
 
 /// The step with its line and number.

@@ -12,8 +12,8 @@
 //! - `sheet`: a sheet's lines, or what makes bytes no sheet
 //!
 //! Nothing is judged on the way from text to bytes but what cannot be laid out
-//! at all: a threshold out of range, a vote without preferences or a peer that
-//! does not exist can be written, and the engine gives its number.
+//! at all: a threshold or a weight out of range, a vote without preferences or a
+//! peer that does not exist can be written, and the engine gives its number.
 
 pub mod explain;
 pub mod keep;

@@ -1,8 +1,8 @@
 //! Pairs of offset and length, and the texts of items that they mark out: in a
-//! table behind its header, in a sheet behind its two bytes.
+//! table behind its header and weights, in a sheet behind its two bytes.
 
 use crate::reasons::phrases::count;
-use crate::season::Season;
+use crate::season::{Season, HEADER_LENGTH};
 use crate::sheet::HEAD_LENGTH;
 
 pub const PAIR_LENGTH: usize = 4;
@@ -26,8 +26,10 @@ pub struct Fault {
 impl<'a> Pairs<'a> {
     /// Of a table at the front of an input that has a header.
     pub fn of_input(bytes: &'a [u8]) -> Pairs<'a> {
-        let start = Season::of(bytes).header_end();
-        Pairs { bytes, whole: "input", start, count: bytes[start - 1] as usize }
+        let season = Season::of(bytes);
+        let header = &bytes[season.front().len()..];
+        let (start, count) = (season.pairs_start(header[0]), header[HEADER_LENGTH - 1] as usize);
+        Pairs { bytes, whole: "input", start, count }
     }
 
     /// Of a sheet that has a period and a count.

@@ -1,5 +1,5 @@
 //! The season of a table: its first bytes tell it, and with it where the header
-//! stands and which audits the table has.
+//! stands, whether the peers have weights, and which audits the table has.
 
 use crate::reasons::phrases::count;
 
@@ -15,15 +15,16 @@ pub enum Season {
     First,
     /// The bytes 0 and 2, then the header. Audits have a place.
     Second,
+    /// The bytes 0 and 3, then the header and a weight for each peer. Audits have a
+    /// place.
+    Third,
 }
 
 impl Season {
     /// Of the table that these bytes start with.
     pub fn of(bytes: &[u8]) -> Season {
-        match bytes.starts_with(Season::Second.front()) {
-            true => Season::Second,
-            false => Season::First,
-        }
+        let mut later = [Season::Second, Season::Third].into_iter();
+        later.find(|season| bytes.starts_with(season.front())).unwrap_or(Season::First)
     }
 
     /// What stands before the header.
@@ -31,28 +32,51 @@ impl Season {
         match self {
             Season::First => &[],
             Season::Second => &[0, 2],
+            Season::Third => &[0, 3],
         }
     }
 
-    /// Where the header ends and the pairs start.
-    pub fn header_end(self) -> usize {
+    /// Whether each peer has a weight; else all weigh the same.
+    pub fn has_weights(self) -> bool {
+        self == Season::Third
+    }
+
+    /// Where the header ends.
+    fn header_end(self) -> usize {
         self.front().len() + HEADER_LENGTH
+    }
+
+    /// Where the pairs start, in a table of so many peers.
+    pub fn pairs_start(self, peers: u8) -> usize {
+        let weights = if self.has_weights() { peers as usize } else { 0 };
+        self.header_end() + weights
     }
 
     /// The header in the bytes of a table, or that it is cut short.
     pub fn header(self, bytes: &[u8]) -> Result<&[u8; HEADER_LENGTH], String> {
         let behind = bytes.get(self.front().len()..).unwrap_or_default();
-        behind.first_chunk().ok_or_else(|| {
-            let (length, least) = (count(bytes.len(), "byte"), self.header_end());
-            format!("{length}, but a {} has at least {least}", self.table())
+        behind.first_chunk().ok_or_else(|| self.cut_short(bytes, self.table(), 1))
+    }
+
+    /// The weights behind the header of so many peers, or that they are cut short.
+    pub fn weights(self, bytes: &[u8], peers: u8) -> Result<&[u8], String> {
+        bytes.get(self.header_end()..self.pairs_start(peers)).ok_or_else(|| {
+            let table = format!("{} with {}", self.table(), count(peers as usize, "peer"));
+            self.cut_short(bytes, &table, peers)
         })
+    }
+
+    /// Bytes that end before the pairs of such a table start.
+    fn cut_short(self, bytes: &[u8], table: &str, peers: u8) -> String {
+        let (length, least) = (count(bytes.len(), "byte"), self.pairs_start(peers));
+        format!("{length}, but a {table} has at least {least}")
     }
 
     /// The length of an audit.
     pub fn audit_length(self) -> usize {
         match self {
             Season::First => BARE_AUDIT,
-            Season::Second => BARE_AUDIT + 1,
+            Season::Second | Season::Third => BARE_AUDIT + 1,
         }
     }
 
@@ -61,6 +85,7 @@ impl Season {
         match self {
             Season::First => "table",
             Season::Second => "table of season 2",
+            Season::Third => "table of season 3",
         }
     }
 }

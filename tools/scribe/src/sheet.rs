@@ -12,7 +12,7 @@ use crate::table::write_item;
 pub const HEAD_LENGTH: usize = 2;
 const LAST_PERIOD: u8 = 7;
 const MOST_ITEMS: u8 = 64;
-/// It does not say of which season its table is.
+/// It does not say of which season its table is; the third has the second's audits.
 const SEASONS: [Season; 2] = [Season::First, Season::Second];
 
 /// The text of a sheet: its period, then a line for each item. An error says

@@ -1,12 +1,14 @@
-//! The ballot table: season, header, pairs and items. The pairs are not written
-//! in the text; they follow from the items.
+//! The ballot table: season, header, weights, pairs and items. The pairs are not
+//! written in the text; they follow from the items.
 
 use crate::hexadecimal;
 use crate::pairs::{Pairs, PAIR_LENGTH};
+use crate::reasons::phrases::count;
 use crate::season::{Season, HEADER_LENGTH};
 use crate::words::Line;
 
 pub const HEADER_FORM: &str = "peers N threshold T honest K .. periods P";
+pub const WEIGHTS_FORM: &str = "weights A ..";
 
 /// The most that two bytes hold.
 const TWO_BYTES: usize = 65_535;
@@ -27,15 +29,17 @@ pub fn is_season(line: &Line) -> bool {
     line.name() == "season"
 }
 
-/// `season 2`
+/// `season 2`, `season 3`
 pub fn read_season(mut line: Line) -> Result<Season, String> {
     line.word("season")?;
-    if line.peek() != Some("2") {
-        return Err(line.expected("'2' (a table of the first season has no such line)"));
-    }
-    line.word("2")?;
+    let (number, season) = match line.peek() {
+        Some("2") => ("2", Season::Second),
+        Some("3") => ("3", Season::Third),
+        _ => return Err(line.expected("'2' or '3' (a table of the first season has no such line)")),
+    };
+    line.word(number)?;
     line.end()?;
-    Ok(Season::Second)
+    Ok(season)
 }
 
 /// `peers N threshold T honest K .. periods P`
@@ -55,10 +59,32 @@ pub fn read_header(mut line: Line, season: Season) -> Result<Header, String> {
     let set = honest.iter().fold(0u16, |set, k| set | 1 << (k - 1)).to_be_bytes();
     let header = [n as u8, t as u8, set[0], set[1], periods as u8];
     if season == Season::First && Season::of(&header) != season {
-        let told = format!("a table that starts with {n} and {t} is of season 2");
+        let told = format!("a table that starts with {n} and {t} is of season {t}");
         return Err(line.error(&format!("expected no threshold {t} of {n} peers: {told}")));
     }
     Ok(header)
+}
+
+/// Whether the line has the weights.
+pub fn is_weights(line: &Line) -> bool {
+    line.name() == "weights"
+}
+
+/// `weights A ..`, one for each peer.
+pub fn read_weights(mut line: Line, peers: u8) -> Result<Vec<u8>, String> {
+    if !is_weights(&line) {
+        return Err(line.expected(&format!("'{WEIGHTS_FORM}'")));
+    }
+    line.word("weights")?;
+    let mut weights = Vec::new();
+    for peer in 1..=peers {
+        weights.push(line.number(&format!("the weight of peer {peer}"), 0, 255)? as u8);
+    }
+    if line.peek().is_some() {
+        let all = count(peers as usize, "weight");
+        return Err(line.expected(&format!("the end of the line after {all}")));
+    }
+    Ok(weights)
 }
 
 /// Whether the line is an item and no step.
@@ -101,14 +127,19 @@ fn read_place(line: &mut Line) -> Result<Option<u8>, String> {
     }
 }
 
-/// The table's bytes: what tells the season, header, pairs, items.
-pub fn lay_out(season: Season, header: Header, items: &[Item]) -> Result<Vec<u8>, String> {
+/// The table's bytes: what tells the season, header, weights, pairs, items.
+pub fn lay_out(
+    season: Season,
+    header: Header,
+    weights: &[u8],
+    items: &[Item],
+) -> Result<Vec<u8>, String> {
     if items.len() > MOST_ITEMS {
         let line = items[MOST_ITEMS].line;
         return Err(format!("line {line}: expected at most {MOST_ITEMS} items"));
     }
-    let mut bytes = [season.front(), &header, &[items.len() as u8]].concat();
-    let mut offset = season.header_end() + PAIR_LENGTH * items.len();
+    let mut bytes = [season.front(), &header, &[items.len() as u8], weights].concat();
+    let mut offset = bytes.len() + PAIR_LENGTH * items.len();
     for item in items {
         let length = item.bytes.len();
         if offset > TWO_BYTES || length > TWO_BYTES {
@@ -130,9 +161,11 @@ pub fn write_table(input: &[u8]) -> Result<(Vec<String>, usize), String> {
     let without = |fact: String| format!("no text for this table: {fact}");
     let season = Season::of(input);
     let header = season.header(input).map_err(without)?;
+    let weights = season.weights(input, header[0]).map_err(without)?;
     let (texts, end) = Pairs::of_input(input).texts().map_err(|fault| without(fault.fact))?;
     let mut lines: Vec<String> = write_season(season).into_iter().collect();
     lines.push(write_header(header));
+    lines.extend(write_weights(season, weights));
     lines.extend(texts.into_iter().map(write_item));
     Ok((lines, end))
 }
@@ -148,6 +181,12 @@ fn write_header(header: &[u8; HEADER_LENGTH]) -> String {
     let peers = (1..=16).filter(|k| set >> (k - 1) & 1 == 1);
     let honest: String = peers.map(|k| format!(" {k}")).collect();
     format!("peers {n} threshold {t} honest{honest} periods {periods}")
+}
+
+/// The weights' line, in a season that has them.
+fn write_weights(season: Season, weights: &[u8]) -> Option<String> {
+    let numbers: String = weights.iter().map(|weight| format!(" {weight}")).collect();
+    season.has_weights().then(|| format!("weights{numbers}"))
 }
 
 /// The line of an item, or of bytes that are none.

@@ -4,14 +4,16 @@ use crate::names::Bounds;
 use crate::reasons::items::no_item;
 use crate::season::Season;
 use crate::steps::{read_step, STEP_LENGTH};
-use crate::table::{is_item, is_season, lay_out, read_header, read_item, read_season, HEADER_FORM};
+use crate::table::{is_item, is_season, is_weights, lay_out, Header, HEADER_FORM, WEIGHTS_FORM};
+use crate::table::{read_header, read_item, read_season, read_weights};
 use crate::words::{lines, Line};
 
 /// A rehearsal that was read from text.
 pub struct Written {
     pub bytes: Vec<u8>,
-    /// The lines of the header, of the items and of the steps.
+    /// The lines of the header, of the weights, of the items and of the steps.
     pub header: Source,
+    pub weights: Option<Source>,
     pub items: Vec<Source>,
     pub steps: Vec<Source>,
     /// Names that the table does not have and audits that are not of its season,
@@ -25,6 +27,15 @@ pub struct Source {
     pub words: String,
 }
 
+/// What stands before the items.
+struct Head {
+    season: Season,
+    header: Header,
+    weights: Vec<u8>,
+    /// Their lines.
+    sources: (Source, Option<Source>),
+}
+
 /// Reads a rehearsal written as text. An error names its line.
 pub fn read(text: &str) -> Result<Written, String> {
     let mut lines = lines(text).peekable();
@@ -33,22 +44,40 @@ pub fn read(text: &str) -> Result<Written, String> {
         next = line.number + 1;
         season = read_season(line)?;
     }
-    let Some(first) = lines.next() else {
-        return Err(format!("line {next}: expected '{HEADER_FORM}', found no line"));
-    };
+    let head = read_head(season, next, &mut lines)?;
     let items = std::iter::from_fn(|| lines.next_if(is_item));
-    let (mut written, bounds) = read_table(season, first, items)?;
+    let (mut written, bounds) = read_table(head, items)?;
     written.read_steps(bounds, lines)?;
     Ok(written)
 }
 
-fn read_table<'a>(
+/// The header, and in a season that has them the weights, from the next line on.
+fn read_head<'a>(
     season: Season,
-    first: Line<'a>,
+    next: usize,
+    lines: &mut impl Iterator<Item = Line<'a>>,
+) -> Result<Head, String> {
+    let first = required(lines.next(), next, HEADER_FORM)?;
+    let (source, next) = (first.source(), first.number + 1);
+    let header = read_header(first, season)?;
+    if !season.has_weights() {
+        return Ok(Head { season, header, weights: Vec::new(), sources: (source, None) });
+    }
+    let line = required(lines.next(), next, WEIGHTS_FORM)?;
+    let sources = (source, Some(line.source()));
+    Ok(Head { season, header, weights: read_weights(line, header[0])?, sources })
+}
+
+/// A line that must be there.
+fn required<'a>(line: Option<Line<'a>>, next: usize, form: &str) -> Result<Line<'a>, String> {
+    line.ok_or_else(|| format!("line {next}: expected '{form}', found no line"))
+}
+
+fn read_table<'a>(
+    head: Head,
     items: impl Iterator<Item = Line<'a>>,
 ) -> Result<(Written, Bounds), String> {
-    let header = first.source();
-    let head = read_header(first, season)?;
+    let Head { season, header: fields, weights, sources: (header, weighed) } = head;
     let (mut sources, mut texts, mut strange) = (Vec::new(), Vec::new(), Vec::new());
     for (k, line) in items.enumerate() {
         let (source, is_audit) = (line.source(), line.name() == "audit");
@@ -59,11 +88,12 @@ fn read_table<'a>(
         sources.push(source);
         texts.push(item);
     }
-    let bytes = lay_out(season, head, &texts)?;
-    let bounds = Bounds::of_header(&head, texts.len());
-    let honest = located(&header, bounds.strange_honest(&head));
+    let bytes = lay_out(season, fields, &weights, &texts)?;
+    let bounds = Bounds::of_header(&fields, texts.len());
+    let honest = located(&header, bounds.strange_honest(&fields));
     let warnings = honest.chain(strange).collect();
-    Ok((Written { bytes, header, items: sources, steps: Vec::new(), warnings }, bounds))
+    let steps = Vec::new();
+    Ok((Written { bytes, header, weights: weighed, items: sources, steps, warnings }, bounds))
 }
 
 impl Written {
@@ -83,6 +113,10 @@ impl Written {
             }
             if is_season(&line) {
                 return Err(line.expected("an item, a step or 'raw' (the season stands first)"));
+            }
+            if is_weights(&line) {
+                let place = "weights stand behind 'peers', in season 3 alone";
+                return Err(line.expected(&format!("an item, a step or 'raw' ({place})")));
             }
             let (source, is_raw) = (line.source(), line.name() == "raw");
             let step = read_step(line)?;

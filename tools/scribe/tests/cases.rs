@@ -97,6 +97,35 @@ line 135, step 101: share 1 0
 }
 
 #[test]
+fn weights_that_carry() {
+    let told = explain_text(&case("weights-carry"), Which::Refused).unwrap();
+    let expected = "\
+line 31, step 6: share 1 0
+    12 short: peer 1 has signers on item 0 in its open period 0 that weigh 4 of 5: 1
+line 36, step 11: receipt 0 0
+    12 short: item 0 has receipt shares in period 0 that weigh 4 of 5: from 1
+line 51, step 24: share 2 1
+    12 short: peer 2 has signers on item 1 in its open period 0 that weigh 3 of 5: 2, 3, 4
+line 52, step 25: share 3 1
+    12 short: peer 3 has signers on item 1 in its open period 0 that weigh 3 of 5: 2, 3, 4
+line 53, step 26: receipt 0 1
+    12 short: item 1 has no receipt shares in period 0, and t is 5
+line 69, step 39: back 2
+    12 short: peer 2 has heard hashes of its board of period 0 that weigh 3 of 5: from 2, 3, 4; \
+its board has item 0
+line 74, step 42: back 1
+    12 short: peer 1 has heard hashes of its board of period 0 that weigh 4 of 5: from 1; \
+its board has item 0
+line 77, step 45: publish entry 4
+    12 short: the board of period 0, item 0, has backings that weigh 4 of 5: from 1
+line 83, step 49: share 2 0
+    17 given: peer 2 gave its receipt share for item 0 in period 0; its open period is 1
+49 steps: 40 done, 9 refused
+";
+    assert_eq!(told, expected);
+}
+
+#[test]
 fn tables_that_are_refused() {
     for (name, expected) in [
         (
@@ -109,6 +138,11 @@ fn tables_that_are_refused() {
             "line 10: audit 8\n    \
                 refused 3 item: item 1 is an audit with 0 bytes after its kind, \
                 but in season 2 it has 1, its place\n",
+        ),
+        (
+            "weight-of-5",
+            "line 9: weights 5 1 1 1\n    \
+                refused 1 header: weight 5 of peer 1, but weights are 1 to 4\n",
         ),
     ] {
         assert_eq!(explain_text(&case(name), Which::All).unwrap(), expected);

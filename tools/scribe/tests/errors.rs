@@ -35,11 +35,11 @@ fn headers() {
 #[test]
 fn seasons() {
     let form = "'peers N threshold T honest K .. periods P'";
-    let two = "'2' (a table of the first season has no such line)";
+    let later = "'2' or '3' (a table of the first season has no such line)";
     for (lines, expected) in [
-        ("season", format!("line 1: expected {two}, found the end of the line")),
-        ("season 1", format!("line 1: expected {two}, found '1'")),
-        ("season 3", format!("line 1: expected {two}, found '3'")),
+        ("season", format!("line 1: expected {later}, found the end of the line")),
+        ("season 1", format!("line 1: expected {later}, found '1'")),
+        ("season 4", format!("line 1: expected {later}, found '4'")),
         ("season 2 3", "line 1: expected the end of the line, found '3'".to_string()),
         ("season 2", format!("line 2: expected {form}, found no line")),
         ("\n# a comment\nseason 2\n", format!("line 4: expected {form}, found no line")),
@@ -56,12 +56,46 @@ fn seasons() {
 /// Its bytes would be those of another table.
 #[test]
 fn a_header_of_another_season() {
-    let line = "peers 0 threshold 2 honest 1 periods 1\n";
-    let expected =
-        "line 1: expected no threshold 2 of 0 peers: a table that starts with 0 and 2 is of season 2";
-    assert_eq!(bytes(line).unwrap_err(), expected);
-    let second = bytes(&format!("season 2\n{line}")).unwrap();
-    assert_eq!(second, [0, 2, 0, 2, 0, 1, 1, 0]);
+    for t in [2, 3] {
+        let line = format!("peers 0 threshold {t} honest 1 periods 1\n");
+        let told = format!("a table that starts with 0 and {t} is of season {t}");
+        let expected = format!("line 1: expected no threshold {t} of 0 peers: {told}");
+        assert_eq!(bytes(&line).unwrap_err(), expected);
+        assert_eq!(bytes(&format!("season 2\n{line}")).unwrap(), [0, 2, 0, t, 0, 1, 1, 0]);
+        assert_eq!(bytes(&format!("season 3\n{line}weights\n")).unwrap(), [0, 3, 0, t, 0, 1, 1, 0]);
+    }
+}
+
+/// In season 3 they stand behind the header, one for each peer; in no other season.
+#[test]
+fn weights() {
+    let header = "peers 3 threshold 3 honest 1 periods 1";
+    let (form, third) = ("'weights A ..'", format!("season 3\n{header}\n"));
+    let third = |line: &str| bytes(&format!("{third}{line}\n")).unwrap_err();
+    for (line, expected) in [
+        ("", format!("{form}, found no line")),
+        ("vote 7 01", format!("{form}, found 'vote'")),
+        ("post 0", format!("{form}, found 'post'")),
+        ("weights", "the weight of peer 1 (0 to 255), found the end of the line".to_string()),
+        ("weights 1 1", "the weight of peer 3 (0 to 255), found the end of the line".to_string()),
+        ("weights 1 1 1 1", "the end of the line after 3 weights, found '1'".to_string()),
+        ("weights 1 256 1", "the weight of peer 2 (0 to 255), found '256'".to_string()),
+        ("weights 1 1 x", "the weight of peer 3 (0 to 255), found 'x'".to_string()),
+        ("weights 1 1 -1", "the weight of peer 3 (0 to 255), found '-1'".to_string()),
+    ] {
+        assert_eq!(third(line), format!("line 3: expected {expected}"), "{line}");
+    }
+    let place = "weights stand behind 'peers', in season 3 alone";
+    let late = format!("expected an item, a step or 'raw' ({place}), found 'weights'");
+    let line = "weights 1 1 1";
+    assert_eq!(third(&format!("{line}\n{line}")), format!("line 4: {late}"));
+    assert_eq!(third(&format!("{line}\npost 0\n{line}")), format!("line 5: {late}"));
+    assert_eq!(bytes(&format!("{header}\n{line}")).unwrap_err(), format!("line 2: {late}"));
+    let second = format!("season 2\n{header}\nvote 7 01\n{line}\n");
+    assert_eq!(bytes(&second).unwrap_err(), format!("line 4: {late}"));
+    let first = format!("season 3\n{line}\n{header}\n");
+    let form = "'peers N threshold T honest K .. periods P'";
+    assert_eq!(bytes(&first).unwrap_err(), format!("line 2: expected {form}, found 'weights'"));
 }
 
 #[test]
@@ -121,6 +155,13 @@ fn tables_without_text() {
         error(&second),
         format!("{start}: item 0 has offset 10, but the pairs end at byte 12")
     );
+    let third = [0, 3, 2, 2, 0, 1, 1, 0, 1, 1];
+    for length in 2..10 {
+        let least = if length < 8 { "3 has at least 9" } else { "3 with 2 peers has at least 10" };
+        let told = format!("{start}: {length} bytes, but a table of season {least}");
+        assert_eq!(error(&third[..length]), told);
+    }
+    assert_eq!(text(&third).unwrap().lines().last(), Some("weights 1 1"));
     let short = "the pairs of 2 items end at byte 14, but the input at byte 8";
     assert_eq!(error(&[1, 1, 0, 1, 1, 2, 0, 14]), format!("{start}: {short}"));
     let offset = [1, 1, 0, 1, 1, 1, 0, 11, 0, 0];

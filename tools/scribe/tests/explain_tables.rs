@@ -1,5 +1,5 @@
 //! Explanations of tables and inputs that are refused, written by hand from
-//! document 01 and from document 02's P5.
+//! document 01 and from document 02's P5; `weights` has those of season 3.
 
 use reference::table::write_table;
 use scribe::explain::{explain_bytes, explain_text, Which};
@@ -52,10 +52,10 @@ fn tables_in_text() {
             "1 header: threshold 2, but with 3 peers it must be 3",
         ),
         (
-            "peers 0 threshold 3 honest 1 periods 1".to_string(),
-            "line 2: peers 0 threshold 3 honest 1 periods 1",
-            "1 header: 0 peers, but a table has 1 to 16, \
-                and one of season 2 starts with 0 and 2, not with 0 and 3",
+            "peers 0 threshold 4 honest 1 periods 1".to_string(),
+            "line 2: peers 0 threshold 4 honest 1 periods 1",
+            "1 header: 0 peers, but a table has 1 to 16, and one of season 2 or 3 \
+                starts with 0 and 2 or with 0 and 3, not with 0 and 4",
         ),
     ] {
         assert_eq!(refused(&lines), format!("{head}\n    refused {fact}\n"));
@@ -128,14 +128,16 @@ fn tables_of_season_2_in_bytes() {
     // In the first season its fifth byte would be the number of periods.
     let periods = "0 periods, but a table has 1 to 8";
     let least = "but a table of season 2 has at least 8";
-    let start =
-        "0 peers, but a table has 1 to 16, and one of season 2 starts with 0 and 2, not with 0";
+    let start = "0 peers, but a table has 1 to 16, and one of season 2 or 3 \
+        starts with 0 and 2 or with 0 and 3, not with 0";
     for (input, fact) in [
         (table[..1].to_vec(), "1 header: 1 byte, but a table has at least 6".to_string()),
         (table[..2].to_vec(), format!("1 header: 2 bytes, {least}")),
         (table[..7].to_vec(), format!("1 header: 7 bytes, {least}")),
-        (altered(1, 3), format!("1 header: {start} and 3; {periods}")),
+        (altered(1, 4), format!("1 header: {start} and 4; {periods}")),
         (altered(1, 1), format!("1 header: {start} and 1; {periods}")),
+        // In season 3 the pair's first byte is the weight.
+        (altered(1, 3), "1 header: weight 0 of peer 1, but weights are 1 to 4".to_string()),
         (altered(2, 0), "1 header: 0 peers, but a table has 1 to 16".to_string()),
         (altered(3, 2), "1 header: threshold 2, but with 1 peer it must be 1".to_string()),
         (altered(9, 10), "2 pairs: item 0 has offset 10, but the pairs end at byte 12".to_string()),

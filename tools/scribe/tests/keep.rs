@@ -61,13 +61,16 @@ hand 1 1  # step 5
     assert_eq!(from_bytes, expected);
 }
 
-/// The season stands among the table's lines; bytes that are no step are one.
+/// Season and weights stand among the table's lines; bytes that are no step are one.
 #[test]
 fn the_season_and_a_short_tail() {
-    let table = "season 2\npeers 1 threshold 1 honest 1 periods 1\naudit 7 place 5\n";
-    let expected = format!("{table}raw 05 00  # step 2\n");
-    let kept = kept(&format!("{table}post 0\nraw 05 00\n"), "2\n");
-    assert_eq!(kept, [(); 2].map(|()| Ok(expected.clone())));
+    for (season, weights) in [("season 2", ""), ("season 3", "weights 4\n")] {
+        let header = "peers 1 threshold 3 honest 1 periods 1\n";
+        let table = format!("{season}\n{header}{weights}audit 7 place 5\n");
+        let expected = format!("{table}raw 05 00  # step 2\n");
+        let kept = kept(&format!("{table}post 0\nraw 05 00\n"), "2\n");
+        assert_eq!(kept, [(); 2].map(|()| Ok(expected.clone())));
+    }
 }
 
 /// The bytes of an input's table and of the steps with these numbers.
@@ -104,7 +107,7 @@ fn cases_cut_down() {
         }
         shrunk += 1;
     }
-    assert!(shrunk > 7, "{shrunk} cases");
+    assert!(shrunk > 8, "{shrunk} cases");
 }
 
 /// The example of README.md is what is stored with its case.

@@ -35,7 +35,10 @@ raw 01 00
 #[test]
 fn every_name_comes_back_as_written() {
     let second = format!("season 2\n{}", EVERY_NAME.replace("audit 7", "audit 7 place 255"));
-    for lines in [EVERY_NAME, &second] {
+    let third = second
+        .replace("season 2\n", "season 3\n")
+        .replace("periods 2\n", "periods 2\nweights 4 1 2 3\n");
+    for lines in [EVERY_NAME, &second, &third] {
         assert_eq!(text(&bytes(lines).unwrap()).unwrap(), lines);
     }
 }
@@ -52,6 +55,25 @@ fn season_2() {
         0, 0, 0, 7, 2, 5, // audits and their places
         0, 0, 0, 7, 2, 0, //
         0, 0, 0, 7, 3, // cancellation
+    ];
+    expected.extend([1, 0, 0, 0, 1, 0, 0, 0, 0, 0, 0, 0, 0]);
+    assert_eq!(bytes(table).unwrap(), expected);
+    assert_eq!(text(&expected).unwrap(), table);
+}
+
+/// 0 and 3, the header, a weight for each peer; the first offset is 8 + 3 + 4 · 2 = 19,
+/// the next 25.
+#[test]
+fn season_3() {
+    let table = "season 3\npeers 3 threshold 5 honest 1 2 periods 1\nweights 4 1 2\n\
+        vote 7 01\naudit 7 place 5\npost 1\n";
+    let mut expected = vec![
+        0, 3, // season
+        3, 5, 0, 3, 1, 2, // header
+        4, 1, 2, // weights
+        0, 19, 0, 6, 0, 25, 0, 6, // pairs
+        0, 0, 0, 7, 1, 1, // vote
+        0, 0, 0, 7, 2, 5, // audit and its place
     ];
     expected.extend([1, 0, 0, 0, 1, 0, 0, 0, 0, 0, 0, 0, 0]);
     assert_eq!(bytes(table).unwrap(), expected);
@@ -95,7 +117,9 @@ fn bad_values_come_back() {
         "peers 1 threshold 1 honest 1 periods 1\naudit 7 place 5\nitem 00 00 00 07 03 00\n",
         "season 2\npeers 4 threshold 3 honest 1 periods 1\naudit 7\naudit 7 place 5\n",
         "season 2\npeers 0 threshold 2 honest 16 periods 0\nvote 7\nitem 00 00 00 07 02 00 00\n",
-        "peers 0 threshold 3 honest 1 periods 1\n",
+        "season 3\npeers 2 threshold 3 honest 1 periods 1\nweights 0 255\naudit 7\n",
+        "season 3\npeers 0 threshold 3 honest 16 periods 0\nweights\nvote 7\n",
+        "peers 0 threshold 4 honest 1 periods 1\n",
         "peers 1 threshold 1 honest 1 periods 1\npost 255\nhand 0 9\nraw FF\n",
     ] {
         assert_eq!(text(&bytes(lines).unwrap()).unwrap(), lines);
@@ -104,13 +128,18 @@ fn bad_values_come_back() {
     assert_eq!(text(&bytes(&long).unwrap()).unwrap(), long);
 }
 
-/// A table of either season with random items, then random steps and a random
-/// tail.
+/// A table of any season with random weights and items, then random steps and a
+/// random tail.
 fn random_input(random: &mut Random) -> Vec<u8> {
-    let mut input: Vec<u8> = [vec![], vec![0, 2]][random.below(2)].clone();
-    input.extend(random.bytes(5));
+    let season = random.below(3);
+    let mut input: Vec<u8> = [vec![], vec![0, 2], vec![0, 3]][season].clone();
+    let header = random.bytes(5);
+    input.extend(&header);
     let m = random.below(6);
     input.push(m as u8);
+    if season == 2 {
+        input.extend(random.bytes(header[0] as usize));
+    }
     let mut offset = input.len() + 4 * m;
     let mut items = Vec::new();
     for _ in 0..m {
@@ -137,11 +166,12 @@ fn random_input(random: &mut Random) -> Vec<u8> {
 #[test]
 fn random_inputs_come_back() {
     let mut random = Random::new(1, 0);
-    let (mut named, mut placed) = (0, [0, 0]);
+    let (mut named, mut placed) = (0, [0, 0, 0]);
     for _ in 0..5000 {
         let input = random_input(&mut random);
         let lines = text(&input).unwrap();
-        placed[lines.starts_with("season 2\n") as usize] += lines.matches(" place ").count();
+        let season = ["season 2\n", "season 3\n"].iter().position(|line| lines.starts_with(line));
+        placed[season.map_or(0, |k| k + 1)] += lines.matches(" place ").count();
         named += lines.lines().filter(|line| !line.starts_with("raw")).count();
         assert_eq!(bytes(&lines).unwrap(), input);
         assert_eq!(text(&bytes(&lines).unwrap()).unwrap(), lines);

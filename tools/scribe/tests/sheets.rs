@@ -159,7 +159,7 @@ fn items_of_random_tables() {
         let texts: Vec<Vec<u8>> = items.iter().map(|item| item.text()).collect();
         let mut bytes = write_sheet(random.below(8) as u8, &texts);
         let (lines, table) = (sheet(&bytes).unwrap(), text(&table).unwrap());
-        let items = table.lines().skip_while(|line| !line.starts_with("peers ")).skip(1);
+        let items = table.lines().skip(table.lines().count() - texts.len());
         assert!(lines.lines().skip(1).eq(items), "seed {seed}, number {number}");
         for _ in 0..random.between(1, 2) {
             let at = random.below(bytes.len());

@@ -80,8 +80,8 @@ fn honest_peers_above_n() {
     assert_eq!(read(text).unwrap().warnings, expected);
 }
 
-/// An audit that the engine will refuse, in either season; `item` is not looked
-/// at, nor is any other item.
+/// An audit that the engine will refuse, in any season; `item` is not looked at,
+/// nor is any other item.
 #[test]
 fn audits_of_another_season() {
     let lines = "peers 4 threshold 3 honest 1 2 3 periods 1\naudit 7\naudit 7 place 5\n\
@@ -103,18 +103,30 @@ fn audits_of_another_season() {
         format!("line 7: {step}"),
     ];
     assert_eq!(second.warnings, expected);
+    let weighed = lines.replacen('\n', "\nweights 1 1 1 1\n", 1);
+    let third = read(&format!("season 3\n{weighed}")).unwrap();
+    assert_eq!(third.bytes.len(), second.bytes.len() + 4);
+    let expected = [
+        "line 4: item 0 is an audit with 0 bytes after its kind, \
+            but in season 3 it has 1, its place"
+            .to_string(),
+        format!("line 8: {step}"),
+    ];
+    assert_eq!(third.warnings, expected);
 }
 
-/// The header is read behind the season.
+/// The header is read behind the season. Weights out of range are no names.
 #[test]
-fn names_in_season_2() {
-    let text =
-        "season 2\npeers 3 threshold 3 honest 1 4 periods 2\naudit 7 place 5\nhand 4 1\nhash 3 2\n";
-    let expected = [
-        "line 2: honest 4: the table has peers 1 to 3",
-        "line 4: peer 4: the table has peers 1 to 3",
-        "line 4: item 1: the table has item 0 alone",
-        "line 5: period 2: the table has periods 0 to 1",
-    ];
-    assert_eq!(read(text).unwrap().warnings, expected);
+fn names_in_later_seasons() {
+    let lines = "peers 3 threshold 3 honest 1 4 periods 2\naudit 7 place 5\nhand 4 1\nhash 3 2\n";
+    let third = format!("season 3\n{}", lines.replacen('\n', "\nweights 0 5 255\n", 1));
+    for (text, first) in [(format!("season 2\n{lines}"), 4), (third, 5)] {
+        let expected = [
+            "line 2: honest 4: the table has peers 1 to 3".to_string(),
+            format!("line {first}: peer 4: the table has peers 1 to 3"),
+            format!("line {first}: item 1: the table has item 0 alone"),
+            format!("line {}: period 2: the table has periods 0 to 1", first + 1),
+        ];
+        assert_eq!(read(&text).unwrap().warnings, expected);
+    }
 }

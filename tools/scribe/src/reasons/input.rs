@@ -5,8 +5,10 @@ use super::phrases::{comma_list, count};
 use crate::pairs::Pairs;
 use crate::season::Season;
 use reference::report::INPUT_SIZE;
-use reference::table::LEAST_THRESHOLD;
 use reference::Refusal;
+
+/// What a peer can weigh.
+const WEIGHTS: std::ops::RangeInclusive<u8> = 1..=4;
 
 /// What is wrong with a table or an input.
 pub struct Fault {
@@ -19,6 +21,7 @@ pub struct Fault {
 pub enum Place {
     Input,
     Header,
+    Weights,
     Item(usize),
 }
 
@@ -47,18 +50,20 @@ fn too_long(input: &[u8]) -> Option<Fault> {
     (length > INPUT_SIZE).then(|| Fault { place: Place::Input, fact: told() })
 }
 
-/// 1: cut short, or fields out of range, all of them.
+/// 1: cut short, or fields and weights out of range, all of them.
 fn header(input: &[u8]) -> Option<Fault> {
     let season = Season::of(input);
     let [n, t, high, low, periods, m] = match season.header(input) {
         Ok(header) => *header,
         Err(fact) => return fault(Place::Header, fact),
     };
-    let [n, t, periods, m] = [n, t, periods, m].map(usize::from);
-    let mut facts = Vec::new();
+    let (mut facts, mut weights) = (Vec::new(), None);
     if (1..=16).contains(&n) {
-        facts.extend(threshold(n, t));
-        facts.extend(honest(n, u16::from_be_bytes([high, low])));
+        match weight(season, input, n) {
+            Ok(weight) => facts.extend(threshold(season, weight, t as usize)),
+            Err(fact) => weights = Some(fact),
+        }
+        facts.extend(honest(n as usize, u16::from_be_bytes([high, low])));
     } else {
         facts.push(peers(season, n, t));
     }
@@ -68,26 +73,47 @@ fn header(input: &[u8]) -> Option<Fault> {
     if m > 64 {
         facts.push(format!("{m} items, but a table has at most 64"));
     }
-    (!facts.is_empty()).then(|| Fault { place: Place::Header, fact: facts.join("; ") })
+    let place = if facts.is_empty() { Place::Weights } else { Place::Header };
+    facts.extend(weights);
+    (!facts.is_empty()).then(|| Fault { place, fact: facts.join("; ") })
 }
 
 /// A number of peers out of range. A 0 at the start may be meant for a season.
-fn peers(season: Season, n: usize, second: usize) -> String {
+fn peers(season: Season, n: u8, second: u8) -> String {
     let told = format!("{n} peers, but a table has 1 to 16");
     match (season, n) {
         (Season::First, 0) => {
-            format!("{told}, and one of season 2 starts with 0 and 2, not with 0 and {second}")
+            let later = "one of season 2 or 3 starts with 0 and 2 or with 0 and 3";
+            format!("{told}, and {later}, not with 0 and {second}")
         }
         _ => told,
     }
 }
 
-/// The threshold, if it does not fit so many peers.
-fn threshold(n: usize, t: usize) -> Option<String> {
-    let least = LEAST_THRESHOLD[n - 1];
-    let fits = if least == n { format!("{n}") } else { format!("{least} to {n}") };
-    let told = || format!("threshold {t}, but with {} it must be {fits}", count(n, "peer"));
-    (!(least..=n).contains(&t)).then(told)
+/// W, which is n where peers have no weights; or the weights out of range.
+fn weight(season: Season, input: &[u8], n: u8) -> Result<usize, String> {
+    if !season.has_weights() {
+        return Ok(n as usize);
+    }
+    let weights = season.weights(input, n)?;
+    let wrong = (1..).zip(weights).filter(|(_, weight)| !WEIGHTS.contains(weight));
+    let told: Vec<String> = wrong.map(|(j, weight)| format!("{weight} of peer {j}")).collect();
+    match told.is_empty() {
+        true => Ok(weights.iter().map(|weight| *weight as usize).sum()),
+        false => Err(format!("weight {}, but weights are 1 to 4", told.join(", "))),
+    }
+}
+
+/// The threshold, if it does not fit so many peers, or such a weight of all.
+fn threshold(season: Season, weight: usize, t: usize) -> Option<String> {
+    let least = 2 * weight / 3 + 1;
+    let fits = if least == weight { format!("{weight}") } else { format!("{least} to {weight}") };
+    let all = match season.has_weights() {
+        true => format!("a weight of {weight} in all"),
+        false => count(weight, "peer"),
+    };
+    let told = || format!("threshold {t}, but with {all} it must be {fits}");
+    (!(least..=weight).contains(&t)).then(told)
 }
 
 /// The honest peers above n.

@@ -34,6 +34,7 @@ fn audits(seasons: &[Season]) -> &'static str {
     match seasons {
         [Season::First] => "but in the first season it has none",
         [Season::Second] => "but in season 2 it has 1, its place",
+        [Season::Third] => "but in season 3 it has 1, its place",
         _ => "but it has none, or 1, its place",
     }
 }

@@ -2,7 +2,7 @@
 //! independent engine (`tests/reference`), which knows nothing of this.
 //!
 //! - `phrases`: the words for numbers, lists, items and entries
-//! - `quorum`: peers beside the t that are needed
+//! - `quorum`: peers, or their weight, beside the t that is needed
 //! - `items`: what is wrong with the texts of items
 //! - `input`: why a table or an input is refused
 //! - `refusals`: why a step is refused; `unknown` and `short`: with 10 and 12

@@ -179,7 +179,7 @@ fn full(table: &Table, state: &State, step: Step) -> Reason {
 
 /// What a step would enter into the bag.
 fn entered(table: &Table, state: &State, step: Step) -> Option<Entry> {
-    let own = |peer: usize, period: usize| state.peer(peer).board(period, table.t);
+    let own = |peer: usize, period: usize| state.peer(peer).board(table, period);
     match step {
         Step::Hash { peer, period } => {
             Some(Entry::Hash { signer: peer, period, board: own(peer, period) })

@@ -1,4 +1,4 @@
-//! Refusal 12: fewer than t.
+//! Refusal 12: fewer than t, or weighing less.
 
 use super::phrases::{comma_list, item_list};
 use super::quorum::{is_short, told_of_threshold};
@@ -11,7 +11,7 @@ use std::collections::BTreeSet;
 /// A quorum that is not there: who is, and the words.
 type Quorum = (BTreeSet<usize>, String);
 
-/// 12: fewer than t signers, shares, heard hashes or backings.
+/// 12: fewer than t signers, shares, heard hashes or backings, or weighing less.
 pub fn short(table: &Table, state: &State, step: Step) -> Reason {
     let (peers, told) = match step {
         Step::Share { peer, item } => signers(table, state, peer, item),
@@ -48,7 +48,7 @@ fn sharers(table: &Table, state: &State, period: usize, item: usize) -> Quorum {
 /// those of other boards, if any.
 fn hashes(table: &Table, state: &State, j: usize) -> Quorum {
     let peer = state.peer(j);
-    let own = peer.board(peer.c, table.t);
+    let own = peer.board(table, peer.c);
     let (mut alike, mut others) = (BTreeSet::new(), BTreeSet::new());
     for number in &peer.heard {
         if let Entry::Hash { signer, period, board } = &state.bag[*number] {
