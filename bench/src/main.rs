@@ -12,12 +12,13 @@ mod check;
 mod engines;
 mod measure;
 mod ops;
+mod rehearsals;
 mod shown;
 mod shrunk;
 
 use inputs::answers::ROWS;
-use inputs::protocol::PROTOCOLS;
-use measure::{best_times, Bench, CALLS};
+use measure::{best_times, Bench};
+use rehearsals::{rehearsals, Rehearsal};
 use shrunk::SHRUNK;
 use std::collections::BTreeMap;
 use std::fs;
@@ -46,8 +47,8 @@ fn main() {
 }
 
 fn write_inputs(folder: &Path) {
-    for protocol in &PROTOCOLS {
-        fs::write(folder.join(protocol.name), protocol.input()).expect("a folder to write to");
+    for Rehearsal { name, input, .. } in rehearsals() {
+        fs::write(folder.join(name), input).expect("a folder to write to");
     }
     for shrunk in &SHRUNK {
         fs::write(folder.join(shrunk.name), (shrunk.input)()).expect("a folder to write to");
@@ -72,14 +73,13 @@ fn count(engine: &str, call: &str, input: &str, op: Option<u8>) {
 
 fn print_times(cases: &Path) {
     println!("cases: {} reports as stored, from both engines", check::cases(cases));
-    for protocol in &PROTOCOLS {
-        let input = protocol.input();
+    for Rehearsal { name, input, calls } in rehearsals() {
         let answers = check::input(&input);
-        println!("\n{}: {} bytes, {} steps", protocol.name, input.len(), answers.len());
+        println!("\n{name}: {} bytes, {} steps", input.len(), answers.len());
         print_mix(&input, &answers);
         print_head("nanoseconds");
         let mut bench = Bench::over(&input);
-        for call in CALLS {
+        for call in calls {
             print_row(call, bench.times(call));
         }
     }
