@@ -6,8 +6,8 @@ use mathlib.Core.Bool.{Bool, true, false, cond}
 use mathlib.Core.Path.{_≡_, refl}
 use mathlib.Core.Logic.{_⊎_, inl, inr}
 use Rattle.base.specs.Bits.{digit}
+use Rattle.base.specs.Sums.{sum, howMany}
 use Rattle.base.proofs.Truth.{split, false-true, either, is-false}
-use Rattle.figures.specs.Sums.{sum, howMany}
 use Rattle.dropping.specs.Kept.{Kept}
 use Rattle.dropping.specs.Passes.{pass, drops, passes}
 use Rattle.dropping.specs.Claims.{EndAt, rests, goes-on}

@@ -4,7 +4,7 @@ use native.Mathlib.Omega.{arith}
 use mathlib.Core.Bool.{true, false}
 use mathlib.Core.List.{List}
 use mathlib.Core.Path.{_≡_, refl, _∙_}
-use Rattle.figures.proofs.Sums.{how-many-most}
+use Rattle.base.proofs.Sums.{how-many-most}
 use Rattle.rules.specs.Run.{Engine}
 use Rattle.dropping.specs.Kept.{Kept, everyStep}
 use Rattle.dropping.specs.Passes.{pass, drops, passes, left}

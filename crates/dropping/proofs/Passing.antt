@@ -5,8 +5,8 @@ use mathlib.Core.Bool.{Bool, true, false, _&&_}
 use mathlib.Core.Path.{_≡_, refl, sym, ap, subst, _∙_}
 use mathlib.Core.Logic.{_⊎_, inl, inr}
 use Rattle.base.specs.Bits.{digit}
+use Rattle.base.specs.Sums.{howMany}
 use Rattle.base.proofs.Truth.{split, true-false, either, is-false, and-l}
-use Rattle.figures.specs.Sums.{howMany}
 use Rattle.dropping.specs.Kept.{Kept, everyStep, without, lost}
 use Rattle.dropping.specs.Passes.{spare, tried, triedBelow, pass, drops, left}
 use Rattle.dropping.specs.Claims.{EndAt, rests, goes-on}

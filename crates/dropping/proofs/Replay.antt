@@ -22,7 +22,7 @@ module _ {X : Type 0} (E : Engine X) where
   store-more x [] c = refl
   store-more x (d ∷ l) c = store-more (E .leaves x d) l c
 
-  answers-more : (x : X) (l : List (List ℕ)) (c : List ℕ)
+  pub answers-more : (x : X) (l : List (List ℕ)) (c : List ℕ)
       → answersFrom E x (l ++ (c ∷ [])) ≡ answersFrom E x l ++ (E .answers (storeFrom E x l) c ∷ [])
   unfolding answersFrom storeFrom
   answers-more x [] c = refl

@@ -9,17 +9,17 @@ use lib.Count as machine
 use lib.ListN.{length}
 use lib.Pow.{pow-pos}
 use Rattle.base.specs.Bits.{bit, pack}
+use Rattle.base.specs.Sums.{sum, howMany}
 use Rattle.base.proofs.Bits.{bit-none, pack-ext, pack-bit, bit-low, bit-pack}
 use Rattle.base.proofs.Masks.{shifted}
+use Rattle.base.proofs.Sums.{how-many-ext, how-many-most, none-in, ones-counted, sum-first}
 use Rattle.header.specs.declared.Head.{Head}
 use Rattle.rules.specs.declared.Entry.{Entry}
 use Rattle.rules.specs.declared.Entry.the-variants.{Hash, Backing, Board}
 use Rattle.rules.specs.Bag.{boardsIn, entryAt}
-use Rattle.figures.specs.Sums.{sum, howMany}
 use Rattle.figures.specs.declared.Totals.{Totals}
 use Rattle.figures.specs.Totals.{Outside, receiptCount, itemsOn, totalsIn}
 use Rattle.figures.specs.Entries.{publishedBy, entryItems}
-use Rattle.figures.proofs.Sums.{how-many-ext, how-many-most, none-in, ones-counted, sum-first}
 
 -- the three figures, each in its place
 pub in-place : (h : Head) (o : Outside) (a b v : ℕ) → a ≡ howMany (h .items) (o .posts)

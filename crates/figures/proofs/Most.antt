@@ -4,15 +4,15 @@ use native.Mathlib.Omega.{arith}
 use mathlib.Core.List.{List}
 use lib.ListN.{length}
 use Rattle.base.specs.Bits.{bit}
+use Rattle.base.specs.Sums.{howMany}
+use Rattle.base.proofs.Sums.{sum-most, how-many-most}
 use Rattle.header.specs.declared.Head.{Head}
 use Rattle.rules.specs.declared.Entry.{Entry}
 use Rattle.rules.specs.Bag.{entryAt, boardsIn}
 use Rattle.rules.specs.State.{State}
 use Rattle.figures.specs.declared.Totals.{Totals}
-use Rattle.figures.specs.Sums.{howMany}
 use Rattle.figures.specs.Totals.{receiptCount, itemsOn, totalsIn, outsideOf}
 use Rattle.figures.specs.Entries.{publishedBy, entryItems}
-use Rattle.figures.proofs.Sums.{sum-most, how-many-most}
 use Rattle.figures.proofs.Counted.{bag-counted}
 
 -- with 64 items, 8 periods and 256 entries

@@ -1,9 +1,9 @@
 -- The items that an entry of the bag publishes.
 use Prim.Native.Nat.{ℕ}
 use Rattle.base.specs.Bits.{bit}
+use Rattle.base.specs.Sums.{howMany}
 use Rattle.rules.specs.declared.Entry.{Entry}
 use Rattle.rules.specs.declared.Entry.the-variants.{Hash, Backing, Board}
-use Rattle.figures.specs.Sums.{howMany}
 
 -- as a set: those of a board; a hash and a backing name a board, and publish none
 unfoldable pub publishedBy : Entry → ℕ

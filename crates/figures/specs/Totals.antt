@@ -3,13 +3,13 @@ use Prim.Native.Nat.{ℕ, _+_}
 use mathlib.Core.Bool.{Bool}
 use mathlib.Core.List.{List, [], _∷_}
 use Rattle.base.specs.Bits.{bit}
+use Rattle.base.specs.Sums.{sum, howMany}
 use Rattle.header.specs.declared.Head.{Head}
 use Rattle.rules.specs.Bag.{boardsIn}
 use Rattle.rules.specs.State.{State}
 use Rattle.rules.specs.Ideal.{Fed}
 use Rattle.rules.specs.Outside.{postsMade, receiptsMade, boardsMade}
 use Rattle.figures.specs.declared.Totals.{Totals}
-use Rattle.figures.specs.Sums.{sum, howMany}
 
 -- what is counted; sets are tests on their members
 pub record Outside : Type 0 where

@@ -3,9 +3,9 @@
 ghost use mathlib.Core.Path.{_≡_};
 ghost use Prim.Native.Nat.{_≤_};
 ghost use Rattle.base.specs.Bits.{bit, pack};
+ghost use Rattle.base.specs.Sums.{howMany};
 ghost use Rattle.state.specs.Contents.{Canon};
 ghost use Rattle.view.specs.View.{stateOn};
-ghost use Rattle.figures.specs.Sums.{howMany};
 ghost use Rattle.figures.specs.Totals.{receiptCount, itemsOn, outsideOf, totalsIn};
 ghost use Rattle.figures.specs.Entries.{publishedBy};
 use bag::bag_len;

@@ -9,6 +9,7 @@ use Rattle.base.specs.Refusals.{first}
 use Rattle.base.specs.Sets.{add1, add2, add3, add4, setAt}
 use Rattle.base.specs.Tab.{tab}
 use Rattle.base.specs.Weight.{weight}
+use Rattle.base.specs.Sums.{sum, howMany}
 use Rattle.header.specs.Header.{headerSize, fieldOf, weightIn, peersWith, leastThreshold, weightsOk, thresholdOk, fieldsOk, headerOk}
 use Rattle.header.specs.Quorum.{weightOf}
 use Rattle.pairs.specs.Pairs.{endBefore, startsAtEnd, pairsFit, pairsOk}
@@ -27,7 +28,6 @@ use Rattle.rules.specs.Outside.{postsWith, receiptsWith, boardsWith, postsMade,
 use Rattle.rules.specs.State.{fresh}
 use Rattle.rules.proofs.Follows.{as-ruled, answered-as-ruled}
 use Rattle.engine.specs.Engine.{rulesTable}
-use Rattle.figures.specs.Sums.{sum, howMany}
 use Rattle.figures.specs.Totals.{receiptCount, itemsOn, totalsIn}
 use Rattle.text.specs.Decimal.{spelled, decimal, field}
 use Rattle.report.specs.Lines.{totalsLine}

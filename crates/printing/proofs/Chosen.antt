@@ -11,12 +11,12 @@ use lib.ListN.{length, getD, length-append, List·getD-append}
 use lib.Seq.{getD-at}
 use borrow.Author.Tests.{ltb-true, ltb-false}
 use Rattle.base.specs.Bits.{bit, digit}
+use Rattle.base.specs.Sums.{sum, howMany}
 use Rattle.base.proofs.Truth.{either}
+use Rattle.base.proofs.Sums.{how-many-most}
 use Rattle.header.specs.Header.{itemsOf}
 use Rattle.ballot.specs.Table.{itemText, refusal}
 use Rattle.ballot.proofs.Sound.{sound}
-use Rattle.figures.specs.Sums.{sum, howMany}
-use Rattle.figures.proofs.Sums.{how-many-most}
 use Rattle.sheets.specs.ReadBack.{Listed}
 use Rattle.printing.specs.Board.{boardTexts}
 

@@ -13,15 +13,15 @@ use lib.Seq.{sets-eq, take-at, drop-at}
 use borrow.Author.Tests.{eqb-true, leb-false, ltb-false, le-ltb, not-false}
 use Rattle.base.specs.Bits.{bit}
 use Rattle.base.specs.Refusals.{numbered, first}
+use Rattle.base.specs.Sums.{howMany}
 use Rattle.base.proofs.Truth.{either, false-true}
 use Rattle.base.proofs.Refusals.{passed, first-passed, first-given}
 use Rattle.base.proofs.Tab.{getD-tab}
+use Rattle.base.proofs.Sums.{how-many-ext}
 use Rattle.header.specs.Header.{headOf, periodsOf, itemsOf, headerOk}
 use Rattle.ballot.specs.Table.{tablePairsOk, itemsOk, noTwins, tableRefusals, refusal}
 use Rattle.ballot.proofs.Sound.{sound}
 use Rattle.rules.specs.Ideal.{hasBoard, onBoard}
-use Rattle.figures.specs.Sums.{howMany}
-use Rattle.figures.proofs.Sums.{how-many-ext}
 use Rattle.valid.specs.StateOk.{stateOk}
 use Rattle.text.specs.Wrote.{over}
 use Rattle.sheets.specs.Sheet.{sheetMost, countOn, textOn}

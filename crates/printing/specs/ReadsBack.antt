@@ -4,10 +4,10 @@ use mathlib.Core.Bool.{true}
 use mathlib.Core.List.{List}
 use mathlib.Core.Path.{_≡_}
 use lib.ListN.{length, take, drop}
+use Rattle.base.specs.Sums.{howMany}
 use Rattle.ballot.specs.Table.{itemText}
 use Rattle.header.specs.Header.{itemsOf}
 use Rattle.rules.specs.Ideal.{onBoard}
-use Rattle.figures.specs.Sums.{howMany}
 use Rattle.sheets.specs.Sheet.{sheetMost, periodOn, countOn, textOn, textsOn, sheetOk}
 use Rattle.sheets.specs.Found.{handedOut}
 use Rattle.printing.specs.Board.{boardsOn, firstBoard, boardTexts}

@@ -7,6 +7,8 @@ use mathlib.Core.Path.{_≡_, refl, sym, subst, _∙_}
 use lib.Dec.{eqb, ltb}
 use lib.ListN.{length}
 use Rattle.base.specs.Bits.{bit, digit}
+use Rattle.base.specs.Sums.{sum, howMany}
+use Rattle.base.proofs.Sums.{sum-ext, sum-zero, as-digit}
 use Rattle.header.specs.declared.Head.{Head}
 use Rattle.header.specs.Quorum.{countIn}
 use Rattle.rules.specs.declared.Entry.{Entry}
@@ -16,10 +18,8 @@ use Rattle.state.specs.declared.Fact.the-variants.{Receipted}
 use Rattle.state.specs.Contents.{Contents}
 use Rattle.state.specs.Sets.{signersOf}
 use Rattle.figures.specs.declared.Totals.{Totals}
-use Rattle.figures.specs.Sums.{sum, howMany}
 use Rattle.figures.specs.Totals.{receiptCount, totalsIn}
 use Rattle.figures.specs.Entries.{publishedBy, entryItems}
-use Rattle.figures.proofs.Sums.{sum-ext, sum-zero, as-digit}
 use Rattle.figures.proofs.Counted.{nothing-published, bag-counted}
 use Rattle.text.specs.Wrote.{each}
 use Rattle.text.specs.Decimal.{field}

@@ -7,13 +7,13 @@ use mathlib.Core.Logic.{_⊎_, inl, inr}
 use mathlib.Core.Path.{_≡_, refl, sym, ap₂, subst, _∙_}
 use Rattle.base.specs.Bits.{digit}
 use Rattle.base.specs.Bytes.{sameBytes}
+use Rattle.base.specs.Sums.{sum}
 use Rattle.base.proofs.Bytes.{same-self, eq-of-same}
+use Rattle.base.proofs.Sums.{sum-part, sum-found}
 use Rattle.header.specs.declared.Head.{Head}
 use Rattle.state.specs.declared.Fact.the-variants.{Receipted}
 use Rattle.state.specs.Contents.{Contents}
 use Rattle.figures.specs.declared.Totals.{Totals}
-use Rattle.figures.specs.Sums.{sum}
-use Rattle.figures.proofs.Sums.{sum-part, sum-found}
 use Rattle.report.specs.Words.{receipt}
 use Rattle.report.specs.State.{shownLines, foot}
 use Rattle.reading.specs.Read.{linesOf, begins, tally}

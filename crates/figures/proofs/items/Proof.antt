@@ -3,12 +3,12 @@ use Prim.Native.Nat.{_*_, _≤_, _-_}
 use native.Mathlib.Omega.{arith}
 use mathlib.Core.Path.{_≡_}
 use borrow.Author.Needs.{needs}
+use Rattle.base.specs.Sums.{sum}
+use Rattle.base.proofs.Sums.{sum-none, sum-more}
 use Rattle.rules.specs.Bag.{entryAt}
 use Rattle.view.specs.View.{stateOn}
-use Rattle.figures.specs.Sums.{sum}
 use Rattle.figures.specs.Entries.{entryItems}
 use Rattle.figures.proofs.Counted.{entry-counted, bag-all}
-use Rattle.figures.proofs.Sums.{sum-none, sum-more}
 use Rattle.figures.proofs.items.Statement.{statement}
 use Rattle.figures.proofs.items.Tie as tie
 

@@ -3,11 +3,11 @@ use Prim.Native.Nat.{_*_, _≤_, _-_}
 use native.Mathlib.Omega.{arith}
 use mathlib.Core.Path.{_≡_}
 use borrow.Author.Needs.{needs}
+use Rattle.base.proofs.Sums.{sum-none, sum-more, sum-all}
 use Rattle.sets.specs.Receipts.{receiptedOf}
 use Rattle.view.specs.View.{stateOn}
 use Rattle.figures.specs.Totals.{receiptCount}
 use Rattle.figures.proofs.Counted.{packed-counted}
-use Rattle.figures.proofs.Sums.{sum-none, sum-more, sum-all}
 use Rattle.figures.proofs.receipts.Statement.{statement}
 use Rattle.figures.proofs.receipts.Tie as tie
 

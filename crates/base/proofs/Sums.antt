@@ -5,13 +5,13 @@ use native.Mathlib.Numerals.{add-one}
 use native.Mathlib.Omega.{arith}
 use native.Mathlib.Decide.{decLt}
 use mathlib.Core.Bool.{Bool, true, false, cond}
-use mathlib.Core.Path.{_≡_, refl, ap, ap₂, _∙_}
+use mathlib.Core.Path.{_≡_, refl, ap, ap₂, subst, _∙_}
 use lib.Count as machine
 use Rattle.base.specs.Bits.{digit, pack}
 use Rattle.base.specs.Weight.{weight, ones}
 use Rattle.base.proofs.Bits.{digit-lt, pack-ext}
 use Rattle.base.proofs.Count.{ones-pack}
-use Rattle.figures.specs.Sums.{sum, howMany}
+use Rattle.base.specs.Sums.{sum, howMany}
 
 pub sum-ext : (n : ℕ) (f g : ℕ → ℕ) → ((k : ℕ) → k < n → f k ≡ g k) → sum n f ≡ sum n g
 unfolding sum
@@ -42,6 +42,22 @@ module _ (f : ℕ → ℕ) where
       go : Dec (0 < f n) → (0 < sum n f → (k : ℕ) × (0 < f k)) → (k : ℕ) × (0 < f k)
       go (yes here) before = (n, here)
       go (no here) before = before (omega arith)
+
+-- sums of numbers of which none is above the other, and one is below
+module _ (f g : ℕ → ℕ) (f-g : (k : ℕ) → f k ≤ g k) where
+  pub sum-mono : (n : ℕ) → sum n f ≤ sum n g
+  unfolding sum
+  sum-mono zero = omega arith
+  sum-mono (suc n) = omega (arith, sum-mono n, f-g n)
+
+  pub sum-less : (n j : ℕ) → j < n → f j + 1 ≤ g j → sum n f + 1 ≤ sum n g
+  unfolding sum
+  sum-less zero j l h = absurd (omega arith)
+  sum-less (suc n) j l h = go (decLt j n) (sum-less n j)
+    where
+      go : Dec (j < n) → (j < n → f j + 1 ≤ g j → sum n f + 1 ≤ sum n g) → sum n f + f n + 1 ≤ sum n g + g n
+      go (yes b) below = omega (arith, f-g n, below b h)
+      go (no b) below = omega (arith, sum-mono n, subst (λ (z : ℕ). f z + 1 ≤ g z) {x = j} {y = n} (omega arith) h)
 
 -- a loop: no number yet, one more, all
 
