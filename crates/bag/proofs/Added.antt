@@ -41,7 +41,7 @@ module _ (s : List ℕ) (o : ℕ) (x : Entry) where
   unfolding entered written
   length-written = simp (length-stored, length-set)
 
-  bytes-written : Bytes s → EntryFits x → Bytes (entered s o x)
+  pub bytes-written : Bytes s → EntryFits x → Bytes (entered s o x)
   unfolding entered written
   bytes-written b h = bytes-stored itemBytes s3 (o + boardIn) (boardOf x) third
     where
@@ -54,7 +54,7 @@ module _ (s : List ℕ) (o : ℕ) (x : Entry) where
       third : Bytes s3
       third = bytes-set s2 (o + periodIn) (periodOf x) second (h .period)
 
-  written-out : (i : ℕ) → (o ≤ i → o + entrySize ≤ i) → byteAt (entered s o x) i ≡ byteAt s i
+  pub written-out : (i : ℕ) → (o ≤ i → o + entrySize ≤ i) → byteAt (entered s o x) i ≡ byteAt s i
   unfolding entered written
   written-out i h =
       stored-out itemBytes s3 (o + boardIn) (boardOf x) i (λ l. omega (arith, h (omega arith)))
@@ -92,13 +92,13 @@ module _ (s : List ℕ) (o : ℕ) (x : Entry) where
 
 -- so it is there
 module _ (s : List ℕ) (e : ℕ) (x : Entry) (room : entryStart e + entrySize ≤ length s) (h : EntryFits x) where
-  written-entry : entryAt (entered s (entryStart e) x) e ≡ x
+  pub written-entry : entryAt (entered s (entryStart e) x) e ≡ x
   unfolding entryAt
   written-entry =
       let o = entryStart e in
       rw (written-kind s o x room, written-signer s o x room, written-period s o x room, written-board s o x room (h .board)) (entry-of x)
 
-  written-settled : Settled (entered s (entryStart e) x) e
+  pub written-settled : Settled (entered s (entryStart e) x) e
   written-settled =
       record {
         kind = written-kind s (entryStart e) x room ∙ ap kindOf (sym written-entry);

@@ -136,7 +136,7 @@ fn write(s: &mut [u8], o: usize, kind: u8, signer: u8, period: u8, board: u64)
 }
 
 // Writes the entry x from o on.
-fn write_entry(s: &mut [u8], o: usize, x: Entry)
+pub fn write_entry(s: &mut [u8], o: usize, x: Entry)
     requires { ⌜ o + entrySize ≤ length (now s) ⌝ }
     ensures { λ _. ⌜ (now (s .exit) ≡ entered (now (s .entry)) o x) × EntryFits x ⌝ }
 {

@@ -23,6 +23,8 @@ use Rattle.rules.specs.Rules.{rule, answer, next}
 use Rattle.rules.specs.Valid.{Peer}
 use Rattle.rules.specs.Fields.{Fields, fields}
 use Rattle.rules.specs.ByRow.{byRow}
+use Rattle.rules.proofs.Backed.{yet, all-backed}
+use Rattle.rules.proofs.Bag.{in-without}
 use Rattle.rules.proofs.ByRow.{by-row}
 use Rattle.edges.specs.Exact.{AllPosted, NeedsUp, hand, sign, take, share, close, fetch, fetch-other, hash, hear, back, Counts, signers, sharers, heard-signers, backed, Enters, own-hash, own-backing, board, false-hash, false-backing, ExactEdges}
 use Rattle.edges.proofs.Stored.{stored, closes, backs}
@@ -144,6 +146,9 @@ module _ (T : Table) (s : State) where
     full-there = λ st a h i. entering st a h _ (search (row, there-not-full));
     full-room = λ st a h r. entering st a h _ (search (row, room-not-full));
     full-only = λ st e. not-with-room (decLe capacity (length (s .bag))) st e;
+    clear-early = λ j p peer h l b. let waits = yet T (s .toBack) p j h peer b in search row depth 6;
+    clear-taken = λ p l above. let none = all-backed T (s .toBack) p above in search row depth 6;
+    clear-goes = λ p e a. rw e (in-without p a (s .bag));
     take-unsigned = λ j k p x a b c d e. search (row, le-ltb) depth 10;
     shares-unseen = λ st shared n. shares-unseen T s shared st n;
     signatures-unseen = λ p x signed db. refl;

@@ -2,21 +2,21 @@
 use Prim.Native.Nat.{ℕ, zero, suc, _+_}
 use mathlib.Core.Bool.{Bool, true, false}
 use mathlib.Core.List.{List, [], _∷_, _++_}
-use mathlib.Core.Path.{_≡_, refl, subst}
-use Rattle.base.proofs.Truth.{false-true}
+use mathlib.Core.Path.{_≡_, refl, subst, _∙_}
+use Rattle.base.proofs.Truth.{false-true, eqb-self}
 use Rattle.base.proofs.Sets.{new1, new2, new3, new4, at-set}
 use Rattle.rules.specs.declared.Entry.{Entry}
-use Rattle.rules.specs.declared.Entry.the-variants.{Backing}
+use Rattle.rules.specs.declared.Entry.the-variants.{Hash, Backing}
 use Rattle.rules.specs.declared.Step.{Step}
-use Rattle.rules.specs.declared.Step.the-variants.{Post, Hand, Sign, Take, Share, Receipt, Close, Fetch, SendHash, Hear, Back, Publish, FalseSignature, FalseShare, FalseHash, FalseBacking, Down, Up}
+use Rattle.rules.specs.declared.Step.the-variants.{Post, Hand, Sign, Take, Share, Receipt, Close, Fetch, SendHash, Hear, Back, Publish, FalseSignature, FalseShare, FalseHash, FalseBacking, Down, Up, ClearHashes}
 use Rattle.rules.specs.Table.{Table}
-use Rattle.rules.specs.Bag.{isIn, isBacking, entryAt, enter}
+use Rattle.rules.specs.Bag.{isIn, isBacking, entryAt, enter, unheard}
 use Rattle.rules.specs.State.{State}
 use Rattle.rules.specs.Rules.{rule, answer, next, addRows}
 use Rattle.rules.specs.Repeat.{There}
 use Rattle.rules.proofs.Answered.{Clear, answered, done, judged}
 use Rattle.rules.proofs.Rows.{rows-new, rows-grow}
-use Rattle.rules.proofs.Bag.{entered, enter-cases}
+use Rattle.rules.proofs.Bag.{entered, enter-cases, in-without}
 use Rattle.edges.specs.Exact.{ownBoard}
 
 -- the backings in a bag keep their numbers
@@ -38,7 +38,7 @@ module _ (j k p : ℕ) (db : ℕ → ℕ → ℕ → ℕ → Bool) where
 
 module _ (T : Table) (s : State) where
   effect-there : (st : Step) → ((j : ℕ) → st ≡ Close j → ⊥) → ((j : ℕ) → st ≡ Back j → ⊥) → Clear T s st → There T (rule T s st .effect) st
-  unfolding rule
+  unfolding rule unheard
   effect-there (Post x) n m c = new1 x (s .posted)
   effect-there (Hand j x) n m c = new3 j (s .current j) x (s .held)
   effect-there (Sign j x) n m c = (new3 j (s .current j) x (s .signed), new4 j (s .current j) x j (s .db))
@@ -57,6 +57,7 @@ module _ (T : Table) (s : State) where
   effect-there (FalseBacking j p B) n m c = entered _ (s .bag)
   effect-there (Down j) n m c = at-set j true (s .down)
   effect-there (Up j) n m c = at-set j false (s .down)
+  effect-there (ClearHashes p) n m c = (λ k B. in-without p (Hash k p B) (s .bag) ∙ rw (eqb-self p), λ j k B. rw (eqb-self p))
 
   pub stored : (st : Step) → ((j : ℕ) → st ≡ Close j → ⊥) → ((j : ℕ) → st ≡ Back j → ⊥) → answer T s st ≡ 0 → There T (next T s st) st
   stored st n m taken = rw (done T s st taken) (effect-there st n m (answered T s st taken))

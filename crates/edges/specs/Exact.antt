@@ -1,16 +1,16 @@
 -- Edges of the steps that demand 3 does not see. An engine that gets one of them wrong may keep demand 3: the exact
 -- rules shut it out.
 use Prim.Native.Nat.{ℕ, _+_, _≤_, _<_}
-use mathlib.Core.Bool.{Bool, true, false}
+use mathlib.Core.Bool.{Bool, true, false, _&&_, not}
 use mathlib.Core.Path.{_≡_}
 use lib.ListN.{length}
 use Rattle.base.specs.Bits.{bit}
 use Rattle.rules.specs.declared.Entry.{Entry}
 use Rattle.rules.specs.declared.Entry.the-variants.{Hash, Backing}
 use Rattle.rules.specs.declared.Step.{Step}
-use Rattle.rules.specs.declared.Step.the-variants.{Hand, Sign, Take, Share, Receipt, Close, Fetch, SendHash, Hear, Back, Publish, FalseShare, FalseHash, FalseBacking}
+use Rattle.rules.specs.declared.Step.the-variants.{Hand, Sign, Take, Share, Receipt, Close, Fetch, SendHash, Hear, Back, Publish, FalseShare, FalseHash, FalseBacking, ClearHashes}
 use Rattle.rules.specs.Table.{Table, weigh}
-use Rattle.rules.specs.Bag.{isIn, isHash, isBacking, entryAt, periodOf, boardOf, boardNamed}
+use Rattle.rules.specs.Bag.{isIn, isHash, isHashOf, isBacking, entryAt, periodOf, boardOf, boardNamed}
 use Rattle.rules.specs.State.{State, with-signed, with-shared, with-db, with-heard}
 use Rattle.rules.specs.Rules.{answer, next, boardBy, backers}
 use Rattle.rules.specs.Repeat.{There}
@@ -127,6 +127,14 @@ pub record ExactEdges (T : Table) (s : State) : Type 0 where
   pub full-there : (st : Step) (a : Entry) → Enters T s st a → isIn a (s .bag) ≡ true → answer T s st ≡ 0
   pub full-room : (st : Step) (a : Entry) → Enters T s st a → length (s .bag) < 256 → answer T s st ≡ 0
   pub full-only : (st : Step) → answer T s st ≡ 13 → 256 ≤ length (s .bag)
+  -- 19: 9 exactly where an honest peer has yet to back the period, which its c says, whatever the bag has and whoever
+  -- is down; else the period's hashes go, and nothing else of the bag
+  pub clear-early : (j p : ℕ) → Peer T j → T .honest j ≡ true → p < T .periods → s .toBack j ≤ p
+      → answer T s (ClearHashes p) ≡ 9
+  pub clear-taken : (p : ℕ) → p < T .periods → ((j : ℕ) → T .honest j ≡ true → Peer T j → p < s .toBack j)
+      → answer T s (ClearHashes p) ≡ 0
+  pub clear-goes : (p : ℕ) → answer T s (ClearHashes p) ≡ 0 → (a : Entry)
+      → isIn a (next T s (ClearHashes p) .bag) ≡ (not (isHashOf p a) && isIn a (s .bag))
   -- A receipt share never counts as a signature: a take of what was not signed answers 10, and no step looks at shares
   -- but receipt and share, and they only at those of `Sees`. So an item may be held and signed again.
   pub take-unsigned : (j k p x : ℕ) → Able T s j → Peer T k → Cell T p x → p ≤ s .current j

@@ -18,6 +18,7 @@ use Rattle.rules.specs.Fields.{Fields, fields}
 use Rattle.rules.specs.ByRow.{oneOf, byRow}
 use Rattle.rules.proofs.ByRow.{by-row}
 use Rattle.rules.proofs.Each.{each}
+use Rattle.rules.specs.Backed.{unbacked}
 use Rattle.rules.specs.Rules.{rule, answer, boardFrom}
 use Rattle.state.specs.Contents.{contents}
 use Rattle.header.specs.declared.Head.{Head}
@@ -37,7 +38,7 @@ module _ (h : Head) (c d : ℕ → ℕ → Bool) (s : List ℕ) where
   -- no other step is judged by what clashes: of document 01's rows only that of a hand asks it
   same-rows : (f : Fields) → oneOf (f .op) (2 ∷ []) ≡ false
       → first (numbered (byRow (tableOf h c) held f)) ≡ first (numbered (byRow (tableOf h d) held f))
-  unfolding byRow boardFrom
+  unfolding byRow boardFrom unbacked
   same-rows f n = rw n
 
   not-asked : (st : Step) → isHand st ≡ false → answerBy h c s st ≡ answerBy h d s st

@@ -11,7 +11,7 @@ use clash::rows::clash_row;
 use header::Head;
 use rules::Step;
 
-// The step, whichever of the eighteen it is.
+// The step, whichever of the nineteen it is.
 pub fn advance(table: &[u8], s: &mut [u8], h: Head, rows: &[u64], st: Step) -> u8
     requires { ⌜ Ready h (now s) × (h .items ≡ itemsOf (now table)) × RowsOf (now table) (now rows) ⌝ }
     ensures { λ r. ⌜ SteppedBy h (clashIn (now (table .entry))) (now (s .entry)) (now (s .exit)) st r ⌝ }
@@ -35,5 +35,6 @@ pub fn advance(table: &[u8], s: &mut [u8], h: Head, rows: &[u64], st: Step) -> u
         Step::FalseBacking(j, p, board) => outsider::step_false_backing(s, h, j, p, board),
         Step::Down(j) => outsider::step_down(s, h, j),
         Step::Up(j) => outsider::step_up(s, h, j),
+        Step::ClearHashes(p) => outsider::step_clear(s, h, p),
     }
 }

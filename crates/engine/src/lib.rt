@@ -10,7 +10,7 @@ use header::Head;
 use rules::Call;
 use state::layout::SIZE;
 
-mod advance; // the inner step, whichever of the eighteen it is
+mod advance; // the inner step, whichever of the nineteen it is
 
 // Writes 0 in every byte.
 pub fn clear(s: &mut [u8])

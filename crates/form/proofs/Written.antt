@@ -16,7 +16,7 @@ use Rattle.base.proofs.Bytes.{number-fits, number-byte}
 use Rattle.base.proofs.Tab.{tab-getD}
 use Rattle.rules.specs.declared.Step.{Step}
 use Rattle.rules.specs.declared.Step.the-variants.{Post, Hand, Sign, Take, Share, Receipt, Close, Fetch, SendHash}
-use Rattle.rules.specs.declared.Step.the-variants.{Hear, Back, Publish, FalseSignature, FalseShare, FalseHash, FalseBacking, Down, Up}
+use Rattle.rules.specs.declared.Step.the-variants.{Hear, Back, Publish, FalseSignature, FalseShare, FalseHash, FalseBacking, Down, Up, ClearHashes}
 use Rattle.rules.specs.declared.Call.{Call}
 use Rattle.rules.specs.declared.Call.the-variants.{Formed, Malformed}
 use Rattle.rules.specs.Form.{allZero, formed, select, ops, laterOps, read}
@@ -55,6 +55,7 @@ read-written (FalseHash j p B) h = ap (λ (C : ℕ). Formed (FalseHash j p C)) (
 read-written (FalseBacking j p B) h = ap (λ (C : ℕ). Formed (FalseBacking j p C)) (whole B h)
 read-written (Down j) h = refl
 read-written (Up j) h = refl
+read-written (ClearHashes p) h = refl
 
 -- the thirteen bytes of fields that are bytes, and of any board, are bytes
 
@@ -129,6 +130,7 @@ all-have j k p x B =
     also has k x 0 0 (FalseBacking j p B) _ (λ a b c d. λ i. of 16 j (a i) p (b i) B)
     also has k p x B (Down j) _ (λ a b c d. λ i. of 17 j (a i) (b i) (c i) (d i))
     also has k p x B (Up j) _ (λ a b c d. λ i. of 18 j (a i) (b i) (c i) (d i))
+    also has j k x B (ClearHashes p) _ (λ a b c d. λ i. of 19 (a i) (b i) p (c i) (d i))
     also tt
 
 -- the step that op finds has the fields f op
@@ -141,23 +143,13 @@ found f op (r ∷ rest) H st e = go (found f op rest (H .1) st) (either (eqb op 
     go later (inl t) = H .0 st (rw t at e) ∙ ap f (sym (eqb-true op (r .0) t))
     go later (inr t) = later (rw t at e)
 
-module _ (s : List ℕ) (small : (i : ℕ) → byteAt s i < 256) where
+module _ (s : List ℕ) where
   -- the fields that thirteen bytes hold
-  abbrev held : Fields
+  abbrev pub held : Fields
   held = of (byteAt s 0) (byteAt s 1) (byteAt s 2) (byteAt s 3) (byteAt s 4) (numberAt s 5 8)
 
-  -- byte i of the board, counted from its low end
-  low : (i : ℕ) → i ≤ 7 → boardByte (numberAt s 5 8) i ≡ byteAt s (5 + (7 - i))
-  low i l = number-byte s small 5 7 i l
-
-  thirteen-bytes : length s ≡ 13 → s ≡ bytesOf held
-  unfolding tab
-  thirteen-bytes e = sym (tab-getD s 0) ∙ ap (λ (n : ℕ). tab n (byteAt s)) e ∙ sym (λ i.
-      byteAt s 0 ∷ byteAt s 1 ∷ byteAt s 2 ∷ byteAt s 3 ∷ byteAt s 4
-      ∷ low 7 (omega arith) i ∷ low 6 (omega arith) i ∷ low 5 (omega arith) i ∷ low 4 (omega arith) i
-      ∷ low 3 (omega arith) i ∷ low 2 (omega arith) i ∷ low 1 (omega arith) i ∷ low 0 (omega arith) i ∷ [])
-
-  holds : (st : Step) → read s ≡ Formed st → (length s ≡ 13) × (fields st ≡ held)
+  -- a step that is read has these fields
+  pub holds : (st : Step) → read s ≡ Formed st → (length s ≡ 13) × (fields st ≡ held)
   unfolding read
   holds st e = go (either (eqb (length s) 13))
     where
@@ -167,12 +159,24 @@ module _ (s : List ℕ) (small : (i : ℕ) → byteAt s i < 256) where
           (eqb-true (length s) 13 t, found _ (held .op) _ steps st (rw t at e))
       go (inr t) = no-step (rw t at e)
 
+module _ (s : List ℕ) (small : (i : ℕ) → byteAt s i < 256) where
+  -- byte i of the board, counted from its low end
+  low : (i : ℕ) → i ≤ 7 → boardByte (numberAt s 5 8) i ≡ byteAt s (5 + (7 - i))
+  low i l = number-byte s small 5 7 i l
+
+  thirteen-bytes : length s ≡ 13 → s ≡ bytesOf (held s)
+  unfolding tab
+  thirteen-bytes e = sym (tab-getD s 0) ∙ ap (λ (n : ℕ). tab n (byteAt s)) e ∙ sym (λ i.
+      byteAt s 0 ∷ byteAt s 1 ∷ byteAt s 2 ∷ byteAt s 3 ∷ byteAt s 4
+      ∷ low 7 (omega arith) i ∷ low 6 (omega arith) i ∷ low 5 (omega arith) i ∷ low 4 (omega arith) i
+      ∷ low 3 (omega arith) i ∷ low 2 (omega arith) i ∷ low 1 (omega arith) i ∷ low 0 (omega arith) i ∷ [])
+
   -- for any bytes, and any step
   pub both-ways : (st : Step) → BothWays s st
   both-ways st =
       record {
         reads = λ is fits. ap read is ∙ read-written st fits;
         writes = λ e.
-            let h = holds st e in
+            let h = holds s st e in
             (thirteen-bytes (h .0) ∙ ap bytesOf (sym (h .1)), omega (arith, ap (λ (f : Fields). f .board) (h .1), number-fits s small 5 8));
       }

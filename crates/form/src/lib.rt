@@ -62,6 +62,9 @@ fn read_later(op: u8, j: u8, k: u8, p: u8, x: u8, board: u64) -> Call
     if op == 18 {
         return formed(all_zero(k, p, x, board), Step::Up(j));
     }
+    if op == 19 {
+        return formed(all_zero(j, k, x, board), Step::ClearHashes(p));
+    }
     Call::Malformed
 }
 

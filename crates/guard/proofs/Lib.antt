@@ -1,3 +1,4 @@
 pub mod Few
 pub mod Rows
 pub mod Sharer
+pub mod Waiting

@@ -9,14 +9,14 @@ use Rattle.base.specs.Sets.{add3, setAt}
 use Rattle.base.proofs.Truth.{split}
 use Rattle.base.proofs.Sets.{grow3, old3, new3, set-elim}
 use Rattle.rules.specs.declared.Step.{Step}
-use Rattle.rules.specs.declared.Step.the-variants.{SendHash, Back, Publish, FalseHash, FalseBacking}
+use Rattle.rules.specs.declared.Step.the-variants.{SendHash, Back, Publish, FalseHash, FalseBacking, ClearHashes}
 use Rattle.rules.specs.Table.{Table}
 use Rattle.rules.specs.Bag.{entryAt, periodOf, boardOf}
 use Rattle.rules.specs.State.{State}
 use Rattle.rules.specs.Rules.{rule, boardBy}
 use Rattle.rules.specs.Valid.{Peer}
 use Rattle.rules.proofs.Answered.{Clear}
-use Rattle.rules.proofs.Bag.{backs, backs-hash, backs-backing, backs-board}
+use Rattle.rules.proofs.Bag.{backs, backs-hash, backs-backing, backs-board, backs-without}
 use Rattle.rules.proofs.Each.{each}
 use Rattle.rules.proofs.Valid.{is-peer}
 use Rattle.liveness.specs.Close.{AllHonest}
@@ -86,6 +86,11 @@ module _ (T : Table) (p U : ℕ) where
     unfolding rule
     backed-publish e f c = rw (backs-board (periodOf (entryAt (s .bag) e)) (boardOf (entryAt (s .bag) e)) (s .bag)) I
 
+    -- and no backing leaves
+    backed-clear : (q : ℕ) → StaysBacked (ClearHashes q)
+    unfolding rule
+    backed-clear q f c = rw (backs-without q (s .bag)) I
+
     pub backed-step : (st : Step) → StaysBacked st
     unfolding rule
-    backed-step = each StaysBacked (search (backed-back, backed-false, backed-hash, backed-false-hash, backed-publish))
+    backed-step = each StaysBacked (search (backed-back, backed-false, backed-hash, backed-false-hash, backed-publish, backed-clear))

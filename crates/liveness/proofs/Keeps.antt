@@ -3,7 +3,7 @@
 use Prim.Native.Nat.{ℕ, _≤_}
 use mathlib.Core.Bool.{true}
 use mathlib.Core.List.{List, _++_}
-use mathlib.Core.Path.{_≡_}
+use mathlib.Core.Path.{_≡_, refl}
 use Rattle.rules.specs.declared.Entry.the-variants.{Backing}
 use Rattle.rules.specs.Table.{Table}
 use Rattle.rules.specs.Bag.{isIn}
@@ -25,6 +25,6 @@ keeps-run T earlier later = let g = grows-run T earlier later in record {
   db = g .db;
   current = g .current;
   toBack = g .toBack;
-  backings = λ k p B. g .bag (Backing k p B);
-  heard = λ j k p B peer honest late. g .heard j k p B;
+  backings = λ k p B. g .bag (Backing k p B) refl;
+  heard = λ j k p B peer honest late. g .heard j k p B late;
 }

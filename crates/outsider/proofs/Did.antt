@@ -2,11 +2,12 @@
 use Prim.Native.Nat.{ℕ}
 use mathlib.Core.List.{List}
 use Rattle.rules.specs.declared.Entry.the-variants.{Hash, Backing}
-use Rattle.rules.specs.declared.Step.the-variants.{FalseSignature, FalseShare, FalseHash, FalseBacking, Down, Up}
+use Rattle.rules.specs.declared.Step.the-variants.{FalseSignature, FalseShare, FalseHash, FalseBacking, Down, Up, ClearHashes}
 use Rattle.rules.specs.Table.{Table}
 use Rattle.state.specs.declared.Fact.the-variants.{Signed, Shared}
 use Rattle.state.specs.declared.Number.the-variants.{DownOf}
 use Rattle.state.specs.Contents.{contents, Holds, insert, store, enterOn}
+use Rattle.state.specs.Cleared.{cleared}
 use Rattle.view.specs.Effect.{effectOn}
 
 module _ (T : Table) (s t : List ℕ) where
@@ -35,3 +36,7 @@ module _ (T : Table) (s t : List ℕ) where
   pub did-up : (j : ℕ) → Holds t (store (DownOf j) 0 (contents s)) → Holds t (effectOn T (contents s) (Up j))
   unfolding effectOn
   did-up j h = h
+
+  pub did-clear : (p : ℕ) → Holds t (cleared p (contents s)) → Holds t (effectOn T (contents s) (ClearHashes p))
+  unfolding effectOn
+  did-clear p h = h

@@ -1,7 +1,7 @@
-// Steps 13 to 18: what the outsider does, and peers that go down and come up.
+// Steps 13 to 19: what the outsider does, peers that go down and come up, and the clearing of the bag.
 // For each its refusals, in the order in which they are judged.
 ghost use mathlib.Core.Path.{_≡_};
-ghost use Rattle.rules.specs.declared.Step.the-variants.{FalseSignature, FalseShare, FalseHash, FalseBacking, Down, Up};
+ghost use Rattle.rules.specs.declared.Step.the-variants.{FalseSignature, FalseShare, FalseHash, FalseBacking, Down, Up, ClearHashes};
 ghost use Rattle.view.specs.View.{answerOn};
 ghost use Rattle.view.specs.Ready.{Ready};
 use header::Head;
@@ -110,4 +110,18 @@ pub fn judge_up(s: &[u8], h: Head, j: u8) -> u8
     ensures { λ r. ⌜ r ≡ answerOn h (now (s .entry)) (Up j) ⌝ }
 {
     judge_down(s, h, j)
+}
+
+// 19, clear: every honest peer has backed period p.
+pub fn judge_clear(s: &[u8], h: Head, p: u8) -> u8
+    requires { ⌜ Ready h (now s) ⌝ }
+    ensures { λ r. ⌜ r ≡ answerOn h (now (s .entry)) (ClearHashes p) ⌝ }
+{
+    if guard::names::no_period(h, p) {
+        return 6;
+    }
+    if guard::backed::unbacked(s, h, p) {
+        return 9;
+    }
+    0
 }

@@ -1,11 +1,13 @@
-// Steps 13 to 18, what the outsider does and peers that go down and come up, on a state that is ready.
+// Steps 13 to 19, what the outsider does, peers that go down and come up, and the clearing of the bag, on a state that
+// is ready.
 // Each is judged by a row of tests, in the order of its refusals, then done in place: nothing is copied, and nothing
 // validated again.
-// It uses the tests of guard and bag_guard to judge, and bag and state to change.
-ghost use Rattle.rules.specs.declared.Step.the-variants.{FalseSignature, FalseShare, FalseHash, FalseBacking, Down, Up};
+// It uses the tests of guard and bag_guard to judge, and bag, clearing and state to change.
+ghost use Rattle.rules.specs.declared.Step.the-variants.{FalseSignature, FalseShare, FalseHash, FalseBacking, Down, Up, ClearHashes};
 ghost use Rattle.view.specs.Ready.{Ready};
 ghost use Rattle.view.specs.Stepped.{Stepped};
 use bag::enter;
+use clearing::clear_hashes;
 use header::Head;
 use rules::Entry;
 use state::Fact;
@@ -90,5 +92,18 @@ pub fn step_up(s: &mut [u8], h: Head, j: u8) -> u8
         return a;
     }
     set_value(s, Number::DownOf(j), 0);
+    0
+}
+
+// 19, clear: the hashes of period p leave the bag.
+pub fn step_clear(s: &mut [u8], h: Head, p: u8) -> u8
+    requires { ⌜ Ready h (now s) ⌝ }
+    ensures { λ r. ⌜ Stepped h (now (s .entry)) (now (s .exit)) (ClearHashes p) r ⌝ }
+{
+    let a = judge::judge_clear(s, h, p);
+    if a != 0 {
+        return a;
+    }
+    clear_hashes(s, p);
     0
 }

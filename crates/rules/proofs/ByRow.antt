@@ -2,7 +2,7 @@
 use mathlib.Core.Path.{_≡_, refl}
 use Rattle.base.specs.Refusals.{numbered, first}
 use Rattle.rules.specs.declared.Step.{Step}
-use Rattle.rules.specs.declared.Step.the-variants.{Post, Hand, Sign, Take, Share, Receipt, Close, Fetch, SendHash, Hear, Back, Publish, FalseSignature, FalseShare, FalseHash, FalseBacking, Down, Up}
+use Rattle.rules.specs.declared.Step.the-variants.{Post, Hand, Sign, Take, Share, Receipt, Close, Fetch, SendHash, Hear, Back, Publish, FalseSignature, FalseShare, FalseHash, FalseBacking, Down, Up, ClearHashes}
 use Rattle.rules.specs.Table.{Table}
 use Rattle.rules.specs.State.{State}
 use Rattle.rules.specs.Rules.{rule, answer}
@@ -29,6 +29,7 @@ by-row T s (FalseHash j p B) = refl
 by-row T s (FalseBacking j p B) = refl
 by-row T s (Down j) = refl
 by-row T s (Up j) = refl
+by-row T s (ClearHashes p) = refl
 
 pub row-edges : RowEdges
 row-edges = record { by-row = by-row }

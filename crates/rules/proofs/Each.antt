@@ -2,7 +2,7 @@
 -- that way for each of them, and only the others are shown apart. So a new step adds a line here, and none there.
 use Prim.Native.Nat.{ℕ}
 use Rattle.rules.specs.declared.Step.{Step}
-use Rattle.rules.specs.declared.Step.the-variants.{Post, Hand, Sign, Take, Share, Receipt, Close, Fetch, SendHash, Hear, Back, Publish, FalseSignature, FalseShare, FalseHash, FalseBacking, Down, Up}
+use Rattle.rules.specs.declared.Step.the-variants.{Post, Hand, Sign, Take, Share, Receipt, Close, Fetch, SendHash, Hear, Back, Publish, FalseSignature, FalseShare, FalseHash, FalseBacking, Down, Up, ClearHashes}
 
 pub record Each (P : Step → Type 0) : Type 0 where
   pub post : (x : ℕ) → P (Post x)
@@ -23,6 +23,7 @@ pub record Each (P : Step → Type 0) : Type 0 where
   pub false-backing : (j p B : ℕ) → P (FalseBacking j p B)
   pub down : (j : ℕ) → P (Down j)
   pub up : (j : ℕ) → P (Up j)
+  pub clear-hashes : (p : ℕ) → P (ClearHashes p)
 
 pub each : (P : Step → Type 0) → Each P → (st : Step) → P st
 each P e (Post x) = e .post x
@@ -43,3 +44,4 @@ each P e (FalseHash j p B) = e .false-hash j p B
 each P e (FalseBacking j p B) = e .false-backing j p B
 each P e (Down j) = e .down j
 each P e (Up j) = e .up j
+each P e (ClearHashes p) = e .clear-hashes p

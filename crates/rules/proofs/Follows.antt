@@ -55,7 +55,7 @@ module _ {T : Table} {X : Type 0} {E : Engine X} {Ready : X → Type 0} (F : Fol
       (F .starts-fresh)
 
   -- the store after a list of calls is ready, and holds what is held then
-  store-from : (calls : List (List ℕ)) (x : X) (seen : List Fed) → Ready x
+  pub store-from : (calls : List (List ℕ)) (x : X) (seen : List Fed) → Ready x
       → Ready (storeFrom E x calls) × (E .holds (storeFrom E x calls) ≡ runFrom E x seen calls .engine)
   unfolding runFrom storeFrom
   store-from [] x seen R = (R, refl)

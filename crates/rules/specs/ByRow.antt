@@ -11,6 +11,7 @@ use Rattle.rules.specs.declared.Step.{Step}
 use Rattle.rules.specs.Table.{Table, quorum, clashing}
 use Rattle.rules.specs.Bag.{isHash, isBacking, entryAt, periodOf, boardOf, boardNamed, isFull}
 use Rattle.rules.specs.State.{State}
+use Rattle.rules.specs.Backed.{unbacked}
 use Rattle.rules.specs.Rules.{answer, boardBy, backers, noPeer, noPeriod, noItem, noBoard, noneOpen, notClosed, givenBefore, unposted}
 use Rattle.rules.specs.Fields.{Fields, fields}
 
@@ -33,7 +34,7 @@ module _ (T : Table) (s : State) (f : Fields) where
       -- name: peer, other, period or item (not entry) out of range; board bit m or above
       (name, op (2 ∷ 3 ∷ 4 ∷ 5 ∷ 7 ∷ 8 ∷ 9 ∷ 10 ∷ 11 ∷ 13 ∷ 14 ∷ 15 ∷ 16 ∷ 17 ∷ 18 ∷ []) && noPeer (T .n) j)
       ∷ (name, op (4 ∷ 8 ∷ []) && noPeer (T .n) k)
-      ∷ (name, op (4 ∷ 6 ∷ 8 ∷ 9 ∷ 13 ∷ 14 ∷ 15 ∷ 16 ∷ []) && noPeriod (T .periods) (f .period))
+      ∷ (name, op (4 ∷ 6 ∷ 8 ∷ 9 ∷ 13 ∷ 14 ∷ 15 ∷ 16 ∷ 19 ∷ []) && noPeriod (T .periods) (f .period))
       ∷ (name, op (1 ∷ 2 ∷ 3 ∷ 4 ∷ 5 ∷ 6 ∷ 13 ∷ 14 ∷ []) && noItem (T .items) x)
       ∷ (name, op (15 ∷ 16 ∷ []) && noBoard (T .items) (f .board))
       -- role: honest or dishonest peer needed
@@ -45,13 +46,15 @@ module _ (T : Table) (s : State) (f : Fields) where
       ∷ (down, op (8 ∷ []) && s .down k)
       -- op 10 judges 10 before 9
       ∷ (unknown, op (10 ∷ []) && not (isHash a))
-      -- period: 2, 3, 5, 7 none open; 4 beyond p; 8, 9, 10 not closed; 11 c = p
+      -- period: 2, 3, 5, 7 none open; 4 beyond p; 8, 9, 10 not closed; 11 c = p; and document 02's 19, an honest
+      -- peer has yet to back it
       ∷ (period, op (2 ∷ 3 ∷ 5 ∷ 7 ∷ []) && noneOpen (T .periods) p)
       ∷ (period, op (4 ∷ []) && ltb p (f .period))
       ∷ (period, op (8 ∷ 9 ∷ []) && notClosed p (f .period))
       ∷ (period, op (8 ∷ []) && notClosed (s .current k) (f .period))
       ∷ (period, op (10 ∷ []) && notClosed p (periodOf a))
       ∷ (period, op (11 ∷ []) && notClosed p c)
+      ∷ (period, op (19 ∷ []) && unbacked T (s .toBack) (f .period))
       -- unknown: 2, 13 to 16 an item not posted; 3 not held in p; 4 signature absent; 12 entry absent or of another
       -- kind
       ∷ (unknown, op (2 ∷ 13 ∷ 14 ∷ []) && not (s .posted x))

@@ -1,7 +1,7 @@
 -- The fields of a step, as document 01 lists them: op, peer, other, period, item (also entry number), board.
 use Prim.Native.Nat.{ℕ}
 use Rattle.rules.specs.declared.Step.{Step}
-use Rattle.rules.specs.declared.Step.the-variants.{Post, Hand, Sign, Take, Share, Receipt, Close, Fetch, SendHash, Hear, Back, Publish, FalseSignature, FalseShare, FalseHash, FalseBacking, Down, Up}
+use Rattle.rules.specs.declared.Step.the-variants.{Post, Hand, Sign, Take, Share, Receipt, Close, Fetch, SendHash, Hear, Back, Publish, FalseSignature, FalseShare, FalseHash, FalseBacking, Down, Up, ClearHashes}
 
 pub record Fields : Type 0 where
   pub op : ℕ
@@ -34,3 +34,4 @@ fields (FalseHash j p B) = of 15 j 0 p 0 B
 fields (FalseBacking j p B) = of 16 j 0 p 0 B
 fields (Down j) = of 17 j 0 0 0 0
 fields (Up j) = of 18 j 0 0 0 0
+fields (ClearHashes p) = of 19 0 0 p 0 0

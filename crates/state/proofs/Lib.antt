@@ -9,3 +9,4 @@ pub mod Encode
 pub mod Decode
 pub mod Fresh
 pub mod Example
+pub mod Cleared

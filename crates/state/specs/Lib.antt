@@ -6,3 +6,4 @@ pub mod Entries
 pub mod Contents
 pub mod Encode
 pub mod Sets
+pub mod Cleared

@@ -10,7 +10,7 @@ use borrow.Author.Tests.{eqb-true}
 use Rattle.base.proofs.Truth.{false-true, either, and-r}
 use Rattle.rules.specs.declared.Entry.{Entry}
 use Rattle.rules.specs.declared.Step.{Step}
-use Rattle.rules.specs.declared.Step.the-variants.{Hear, Back, Down, Up}
+use Rattle.rules.specs.declared.Step.the-variants.{Hear, Back, Down, Up, ClearHashes}
 use Rattle.rules.specs.Table.{Table}
 use Rattle.rules.specs.Bag.{isIn, isHash, entryAt}
 use Rattle.rules.specs.Rules.{rule}
@@ -26,6 +26,7 @@ use Rattle.state.specs.Sets.{fetched}
 use Rattle.view.specs.View.{stateOf}
 use Rattle.view.specs.Effect.{effectOn}
 use Rattle.view.specs.Good.{Sound, Good}
+use Rattle.view.proofs.Cleared.{clear-sound}
 use Rattle.view.proofs.Meets.{meets}
 
 -- a hash entry stays one when another is appended
@@ -81,10 +82,14 @@ ups : (T : Table) (c : Contents) → Sound c → (j : ℕ) → Sound (effectOn T
 unfolding effectOn
 ups T c S j = down-sound c S j 0 (omega arith)
 
+clears : (T : Table) (c : Contents) → Sound c → (p : ℕ) → Sound (effectOn T c (ClearHashes p))
+unfolding effectOn
+clears T c S p = clear-sound c p S
+
 keeps-sound : (T : Table) (c : Contents) → Sound c → (st : Step) → Clear T (stateOf c) st → Sound (effectOn T c st)
 unfolding effectOn rule insert adding store fetched knownTo
 keeps-sound T c S = each (λ st. Clear T (stateOf c) st → Sound (effectOn T c st))
-    (search (hears T c S, backs T c S, downs T c S, ups T c S, enter-sound c S, untouched c S, refl))
+    (search (hears T c S, backs T c S, downs T c S, ups T c S, clears T c S, enter-sound c S, untouched c S, refl))
 
 pub keeps-good : (T : Table) (c : Contents) (st : Step) → Good T c → Clear T (stateOf c) st → Good T (effectOn T c st)
 keeps-good T c st G h = record {

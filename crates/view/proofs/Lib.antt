@@ -1,4 +1,5 @@
 pub mod Told
+pub mod Cleared
 pub mod Meets
 pub mod Keeps
 pub mod Whatever

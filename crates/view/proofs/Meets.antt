@@ -12,7 +12,7 @@ use Rattle.base.proofs.Truth.{false-true, either, is-false}
 use Rattle.rules.specs.declared.Entry.{Entry}
 use Rattle.rules.specs.declared.Entry.the-variants.{Hash, Backing, Board}
 use Rattle.rules.specs.declared.Step.{Step}
-use Rattle.rules.specs.declared.Step.the-variants.{Post, Hand, Sign, Take, Share, Receipt, Close, Fetch, SendHash, Hear, Back, Publish, FalseSignature, FalseShare, FalseHash, FalseBacking, Down, Up}
+use Rattle.rules.specs.declared.Step.the-variants.{Post, Hand, Sign, Take, Share, Receipt, Close, Fetch, SendHash, Hear, Back, Publish, FalseSignature, FalseShare, FalseHash, FalseBacking, Down, Up, ClearHashes}
 use Rattle.rules.specs.Table.{Table}
 use Rattle.rules.specs.Bag.{sameEntry, isIn, entryAt, isHash, signerOf, periodOf, boardOf, enter}
 use Rattle.rules.specs.State.{with-bag, with-down, with-heard, with-toBack}
@@ -27,6 +27,7 @@ use Rattle.view.specs.View.{told, stateOf}
 use Rattle.view.specs.Effect.{effectOn}
 use Rattle.view.specs.Good.{Sound}
 use Rattle.view.proofs.Told.{told-hear, told-new}
+use Rattle.view.proofs.Cleared.{clear-meets}
 
 -- a hash entry has a number below the bag's length
 pub hash-below : (l : List Entry) (e : ℕ) → isHash (entryAt l e) ≡ true → e < length l
@@ -108,3 +109,4 @@ module _ (c : Contents) (S : Sound c) where
   meets T (FalseBacking j p B) h = enter-meets _
   meets T (Down j) h = down-meets j 1
   meets T (Up j) h = down-meets j 0
+  meets T (ClearHashes p) h = clear-meets c p

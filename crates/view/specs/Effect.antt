@@ -1,9 +1,10 @@
--- What a step that is not refused does to the contents: facts are added, numbers stored, entries appended.
+-- What a step that is not refused does to the contents: facts are added, numbers stored, entries appended; a clear
+-- removes.
 -- It is the effect of `rule`, with heard hashes by their entry numbers (proofs/Meets).
 use Prim.Native.Nat.{_+_}
 use Rattle.rules.specs.declared.Entry.the-variants.{Hash, Backing}
 use Rattle.rules.specs.declared.Step.{Step}
-use Rattle.rules.specs.declared.Step.the-variants.{Post, Hand, Sign, Take, Share, Receipt, Close, Fetch, SendHash, Hear, Back, Publish, FalseSignature, FalseShare, FalseHash, FalseBacking, Down, Up}
+use Rattle.rules.specs.declared.Step.the-variants.{Post, Hand, Sign, Take, Share, Receipt, Close, Fetch, SendHash, Hear, Back, Publish, FalseSignature, FalseShare, FalseHash, FalseBacking, Down, Up, ClearHashes}
 use Rattle.rules.specs.Table.{Table}
 use Rattle.rules.specs.Bag.{boardNamed}
 use Rattle.rules.specs.Rules.{boardBy}
@@ -11,6 +12,7 @@ use Rattle.state.specs.declared.Fact.the-variants.{Posted, Signed, Shared, Rece
 use Rattle.state.specs.declared.Number.the-variants.{CurrentOf, ToBackOf, DownOf}
 use Rattle.state.specs.Contents.{Contents, insert, store, enterOn}
 use Rattle.state.specs.Sets.{fetched}
+use Rattle.state.specs.Cleared.{cleared}
 use Rattle.view.specs.View.{stateOf}
 
 unfoldable pub effectOn : Table → Contents → Step → Contents
@@ -36,3 +38,4 @@ effectOn T c (FalseHash j p B) = enterOn (Hash j p B) c
 effectOn T c (FalseBacking j p B) = enterOn (Backing j p B) c
 effectOn T c (Down j) = store (DownOf j) 1 c
 effectOn T c (Up j) = store (DownOf j) 0 c
+effectOn T c (ClearHashes p) = cleared p c

@@ -7,43 +7,47 @@ use Rattle.form.proofs.read_later.Tie as tie
 
 returns : tie.Need-returns
 unfolding laterOps
-returns c = search by-op depth 12
+returns c = search by-op depth 13
 
 returns-2 : tie.Need-returns-2
 unfolding laterOps
-returns-2 c = search by-op depth 12
+returns-2 c = search by-op depth 13
 
 returns-3 : tie.Need-returns-3
 unfolding laterOps
-returns-3 c = search by-op depth 12
+returns-3 c = search by-op depth 13
 
 returns-4 : tie.Need-returns-4
 unfolding laterOps
-returns-4 c = search by-op depth 12
+returns-4 c = search by-op depth 13
 
 returns-5 : tie.Need-returns-5
 unfolding laterOps
-returns-5 c = search by-op depth 12
+returns-5 c = search by-op depth 13
 
 returns-6 : tie.Need-returns-6
 unfolding laterOps
-returns-6 c = search by-op depth 12
+returns-6 c = search by-op depth 13
 
 returns-7 : tie.Need-returns-7
 unfolding laterOps
-returns-7 c = search by-op depth 12
+returns-7 c = search by-op depth 13
 
 returns-8 : tie.Need-returns-8
 unfolding laterOps
-returns-8 c = search by-op depth 12
+returns-8 c = search by-op depth 13
 
 returns-9 : tie.Need-returns-9
 unfolding laterOps
-returns-9 c = search by-op depth 12
+returns-9 c = search by-op depth 13
 
 returns-10 : tie.Need-returns-10
 unfolding laterOps
-returns-10 c = search by-op depth 12
+returns-10 c = search by-op depth 13
+
+returns-11 : tie.Need-returns-11
+unfolding laterOps
+returns-11 c = search by-op depth 13
 
 pub read-later-spec : {M : Type 1} → statement M
 read-later-spec =
@@ -76,4 +80,7 @@ read-later-spec =
     (λ c κs. search needs)
     (λ c κs. search needs)
     returns-9
-    returns-10)
+    (λ c κs. search needs)
+    (λ c κs. search needs)
+    returns-10
+    returns-11)

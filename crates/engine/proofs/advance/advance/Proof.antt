@@ -30,8 +30,10 @@ advance-spec =
     (λ c. search needs) (λ c κs. search needs)
     (λ c. search needs) (λ c κs. search needs)
     (λ c. search needs) (λ c κs. search needs)
+    (λ c. search needs) (λ c κs. search needs)
     (λ c. search needs) (λ c. search of-step)
     (λ c. search needs) returns-2
+    (λ c. search needs) (λ c. search of-step)
     (λ c. search needs) (λ c. search of-step)
     (λ c. search needs) (λ c. search of-step)
     (λ c. search needs) (λ c. search of-step)
