@@ -1,5 +1,5 @@
 // The engine for C, whose slices are a pointer and a length: `include/board.h` declares these functions.
-// It uses ballot, engine, rehearsal, shrinking, printing and sheets, and adds nothing to what they promise.
+// It uses ballot, engine, rehearsal, shrinking, gains, printing and sheets, and adds nothing to what they promise.
 ghost use Prim.Native.Nat.{_≤_};
 ghost use mathlib.Core.Path.{_≡_};
 ghost use lib.ListN.{length};
@@ -8,6 +8,8 @@ ghost use Rattle.state.specs.Layout.{size};
 ghost use Rattle.text.specs.Wrote.{over};
 ghost use Rattle.rehearsal.specs.Rehearsal.{reported, stateLeft, reportMost};
 ghost use Rattle.shrinking.specs.Shrunk.{shrunk, shrunkMost};
+ghost use Rattle.gains.specs.Gain.{gain};
+ghost use Rattle.gains.specs.File.{fileCalls};
 ghost use Rattle.sheets.specs.Sheet.{sheetMost};
 ghost use Rattle.sheets.specs.Found.{sheetAnswer, found, foundNumber, foundOffset, foundLength};
 ghost use Rattle.printing.specs.Written.{written, sheetLeft, writtenNumber, writtenLength};
@@ -84,6 +86,15 @@ pub extern "C" fn board_shrink(input: &[u8], out: &mut [u8]) -> usize
     ensures { λ _. ⌜ now (out .exit) ≡ over (now (out .entry)) 0 (shrunk (now (input .entry))) ⌝ }
 {
     shrinking::shrink(input, out)
+}
+
+// How many entries the steps of a file can add to the bag: its 13-byte steps 9, 12 and 15, different steps 16, and
+// steps 11, at most 8 for each peer byte.
+#[no_mangle]
+pub extern "C" fn board_gain(steps: &[u8]) -> usize
+    ensures { λ r. ⌜ r ≡ gain (fileCalls (now (steps .entry))) ⌝ }
+{
+    gains::gain(steps)
 }
 
 // The length of a buffer that has room for every sheet.

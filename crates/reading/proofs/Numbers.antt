@@ -1,4 +1,5 @@
--- Numbers read back from a text, so that no two numbers are written alike, nor the lines of two receipts.
+-- Numbers read back from a text, so that no two numbers are written alike, nor the lines of two receipts, nor those of
+-- two answers.
 use Prim.Native.Nat.{ℕ, zero, suc, _+_, _-_, _*_, _/_, _%_, _<_}
 use native.Mathlib.Omega.{arith}
 use mathlib.Core.Bool.{Bool, true, false, cond}
@@ -9,6 +10,7 @@ use lib.ListN.{getD}
 use borrow.Author.Tests.{ne-eqb, ltb-false}
 use Rattle.text.specs.Decimal.{spelled, decimal, field}
 use Rattle.reading.specs.Receipts.{receiptText}
+use Rattle.reading.specs.Steps.{stepText}
 
 -- the numbers of a text, a blank between them; n is what was read of the first one so far
 numbersFrom : ℕ → List ℕ → List ℕ
@@ -51,4 +53,14 @@ receipt-read p x = decimal-read p (32 ∷ decimal x) ∙ ap (λ (l : List ℕ). 
 pub receipt-once : (p x q y : ℕ) → receiptText p x ≡ receiptText q y → (p ≡ q) × (x ≡ y)
 receipt-once p x q y e =
     let same = sym (receipt-read p x) ∙ ap (λ (l : List ℕ). tail (numbersFrom 0 l)) e ∙ receipt-read q y in
+    (ap (λ (l : List ℕ). getD l 0 0) same, ap (λ (l : List ℕ). getD l 1 0) same)
+
+-- the fields of a step's line
+step-read : (k a : ℕ) → numbersFrom 0 (stepText k a) ≡ k ∷ a ∷ []
+unfolding numbersFrom field
+step-read k a = decimal-read k (32 ∷ decimal a) ∙ ap (λ (l : List ℕ). k ∷ l) (alone-read a)
+
+pub step-once : (k a i b : ℕ) → stepText k a ≡ stepText i b → (k ≡ i) × (a ≡ b)
+step-once k a i b e =
+    let same = sym (step-read k a) ∙ ap (numbersFrom 0) e ∙ step-read i b in
     (ap (λ (l : List ℕ). getD l 0 0) same, ap (λ (l : List ℕ). getD l 1 0) same)

@@ -1,3 +1,4 @@
 pub mod Read
 pub mod Report
 pub mod Receipts
+pub mod Steps

@@ -1,0 +1,4 @@
+pub mod Clears
+pub mod Gains
+pub mod Shown
+pub mod Worked

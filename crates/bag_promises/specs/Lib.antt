@@ -1,0 +1,3 @@
+pub mod Clears
+pub mod Gains
+pub mod Worked

@@ -1,0 +1,9 @@
+pub mod Places
+pub mod Translated
+pub mod Alike
+pub mod Kept
+pub mod Removed
+pub mod ClearedRun
+pub mod GoneRun
+pub mod OwnRun
+pub mod Worked

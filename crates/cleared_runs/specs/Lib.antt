@@ -1,0 +1,4 @@
+pub mod Cleared
+pub mod Own
+pub mod Gone
+pub mod Worked

@@ -1,0 +1,3 @@
+pub mod Gain
+pub mod File
+pub mod Chains
