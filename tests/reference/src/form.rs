@@ -28,9 +28,10 @@ pub enum Step {
     FalseBacking { peer: usize, period: usize, board: u64 },
     Down { peer: usize },
     Up { peer: usize },
+    Clear { period: usize },
 }
 
-/// 5: not 13 bytes, op not 1..18, unused field not 0.
+/// 5: not 13 bytes, op not 1..19, unused field not 0.
 pub fn read_step(bytes: &[u8]) -> Result<Step, Refusal> {
     if bytes.len() != STEP_LENGTH {
         return Err(Refusal::Form);
@@ -56,6 +57,7 @@ pub fn read_step(bytes: &[u8]) -> Result<Step, Refusal> {
         16 => Step::FalseBacking { peer, period, board },
         17 => Step::Down { peer },
         18 => Step::Up { peer },
+        19 => Step::Clear { period },
         _ => return Err(Refusal::Form),
     };
     // A step that differs from its own bytes had an unused field that is not 0.
@@ -87,6 +89,7 @@ pub fn write_step(step: Step) -> [u8; STEP_LENGTH] {
         Step::FalseBacking { peer, period, board } => layout(16, peer, 0, period, 0, board),
         Step::Down { peer } => layout(17, peer, 0, 0, 0, 0),
         Step::Up { peer } => layout(18, peer, 0, 0, 0, 0),
+        Step::Clear { period } => layout(19, 0, 0, period, 0, 0),
     }
 }
 

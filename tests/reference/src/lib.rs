@@ -18,10 +18,12 @@
 //! - `union`: the union of the databases, and its board
 //! - `sheet`: a published board as a file of its own, written and read
 //! - `shrink`: a rehearsal that was refused at its end, cut down
+//! - `gain`: the most that the bag can gain by a step file, counted from the file alone
 //! - `ideal`: the ideal board
 
 mod false_steps;
 pub mod form;
+pub mod gain;
 mod header;
 pub mod ideal;
 pub mod pairs;

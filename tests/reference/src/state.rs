@@ -27,7 +27,7 @@ pub struct State {
     pub shares: BTreeSet<(usize, usize, usize)>,
     /// (period, item)
     pub receipts: BTreeSet<(usize, usize)>,
-    /// Different entries, numbered from 0 as they came.
+    /// Different entries, numbered from 0 as they came; what is cleared leaves no gap.
     pub bag: Vec<Entry>,
     /// Peer j is `peers[j - 1]`; see `peer` and `peer_mut`.
     pub peers: Vec<Peer>,
@@ -94,6 +94,19 @@ impl State {
         }
         self.bag.push(entry);
         Ok(())
+    }
+
+    /// The period's hash entries leave the bag. The rest keep their order and are
+    /// numbered afresh, and each peer's heard entries follow.
+    pub fn remove_hashes(&mut self, period: usize) {
+        let goes = |entry: &Entry| matches!(entry, Entry::Hash { period: q, .. } if *q == period);
+        // What stays, by its old numbers: the place of each here is its new one.
+        let stay: Vec<usize> = (0..self.bag.len()).filter(|k| !goes(&self.bag[*k])).collect();
+        for peer in &mut self.peers {
+            let heard = (0..stay.len()).filter(|new| peer.heard.contains(&stay[*new]));
+            peer.heard = heard.collect();
+        }
+        self.bag.retain(|entry| !goes(entry));
     }
 
     /// The period and board of a backing, by its entry number.

@@ -48,10 +48,12 @@ fn run(table: &Table, state: &mut State, step: Step) -> Done {
         }
         Step::Down { peer } => down(table, state, peer),
         Step::Up { peer } => up(table, state, peer),
+        Step::Clear { period } => clear(table, state, period),
     }
 }
 
-// The ops, in document 01's order; 13 to 16 are in `false_steps`.
+// The ops, in document 01's order, and 19 of document 02's P11; 13 to 16 are in
+// `false_steps`.
 
 /// 1 post.
 fn post(table: &Table, state: &mut State, item: usize) -> Done {
@@ -248,5 +250,15 @@ fn up(table: &Table, state: &mut State, j: usize) -> Done {
     name_peer(table, j)?;
     need_honest(table, j)?;
     state.peer_mut(j).up = true;
+    Ok(())
+}
+
+/// 19 clear: the hash entries of a period that every honest peer has backed leave
+/// the bag. 9: an honest peer's c is not above the period, whatever the bag has.
+fn clear(table: &Table, state: &mut State, period: usize) -> Done {
+    name_period(table, period)?;
+    let all_backed = table.honest.iter().all(|j| state.peer(*j).c > period);
+    refuse_if(!all_backed, Refusal::Period)?;
+    state.remove_hashes(period);
     Ok(())
 }

@@ -185,11 +185,11 @@ fn for_no_other_step() {
         }
     }
     let lent = run.state.clone();
-    let mut times = [0; 19];
+    let mut times = [0; 20];
     for fields in 0..5 * 5 * PERIODS * 3 {
         let [peer, other] = [fields % 5, fields / 5 % 5].map(|peer| peer as u8);
         let [period, item] = [fields / 25 % PERIODS, fields / 25 / PERIODS].map(|at| at as u8);
-        for op in 1..=18 {
+        for op in 1..=19 {
             run.state = lent.clone();
             let answer = run.call_bytes(&[op, peer, other, period, item, 0, 0, 0, 0, 0, 0, 0, 0]);
             times[op as usize] += (answer == 17) as usize;

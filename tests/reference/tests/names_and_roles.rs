@@ -7,7 +7,7 @@ use common::*;
 use reference::form::{read_step, Step};
 
 /// The bytes in use after each op: 1 peer, 2 other, 3 period, 4 item.
-const USED: [&[usize]; 18] = [
+const USED: [&[usize]; 19] = [
     &[4],
     &[1, 4],
     &[1, 4],
@@ -26,6 +26,7 @@ const USED: [&[usize]; 18] = [
     &[1, 3],
     &[1],
     &[1],
+    &[3],
 ];
 
 #[test]
@@ -41,7 +42,7 @@ fn form() {
             bytes[at] = 1;
             let fits = match op {
                 15 | 16 => at >= 5 || USED[op as usize - 1].contains(&at),
-                1..=18 => USED[op as usize - 1].contains(&at),
+                1..=19 => USED[op as usize - 1].contains(&at),
                 _ => false,
             };
             assert_eq!(read_step(&bytes).is_ok(), fits, "op {op} byte {at}");
