@@ -1,5 +1,6 @@
 //! The inner step: judged and done on a state that is valid, in place.
 
+use crate::clear::clear;
 use crate::form::{read, Fields};
 use crate::guards::*;
 use crate::state::{Entry, State, BACKING, BOARD, HASH};
@@ -29,7 +30,8 @@ pub fn advance(
         12 => publish(table, state, &step),
         13 | 14 => false_mark(table, state, &step),
         15 | 16 => false_entry(table, state, &step),
-        _ => set_down(table, state, &step),
+        17 | 18 => set_down(table, state, &step),
+        _ => clear(table, state, &step),
     }
 }
 

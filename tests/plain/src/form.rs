@@ -18,7 +18,7 @@ const SMALL: u64 = PEER | OTHER | PERIOD | ITEM;
 const BOARD: u64 = 0xFF << 40;
 
 /// For each op from 1 on the bytes that it names.
-const NAMED: [u64; 18] = [
+const NAMED: [u64; 19] = [
     ITEM,
     PEER | ITEM,
     PEER | ITEM,
@@ -37,6 +37,7 @@ const NAMED: [u64; 18] = [
     PEER | PERIOD | BOARD,
     PEER,
     PEER,
+    PERIOD,
 ];
 
 /// The fields, unless the form is wrong (5).

@@ -8,15 +8,19 @@
 //! - `form`: 13 bytes as the fields of a step
 //! - `guards`: the refusals that several ops share
 //! - `advance`: the inner step, which validates nothing
+//! - `clear`: of it op 19, the hashes of a period removed
 //! - `run`: an input's steps, run one by one
 //! - `lines`: text, line by line
 //! - `report`: the rehearsal
 //! - `shrink`: a short rehearsal that still refuses
 //! - `sheet`: a period's board as a sheet, written and read
+//! - `gain`: how many entries a step file can bring
 
 mod advance;
+mod clear;
 mod differ;
 mod form;
+mod gain;
 mod guards;
 mod lines;
 mod report;
@@ -28,6 +32,7 @@ mod table;
 mod texts;
 mod valid;
 
+pub use gain::gain;
 use guards::{refuse_if, STATE};
 pub use report::rehearse;
 pub use run::Run;
