@@ -112,6 +112,7 @@ fn names_of_periods_boards_and_entries() {
             Step::FalseShare { peer: 4, period, item: 0 },
             Step::FalseHash { peer: 4, period, board: 0 },
             Step::FalseBacking { peer: 4, period, board: 0 },
+            Step::Clear { period },
         ] {
             assert_eq!(run.call(step), 6, "{step:?}");
         }
