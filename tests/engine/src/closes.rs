@@ -13,8 +13,8 @@ pub struct Called {
     /// None if the bytes are no step.
     pub step: Option<Step>,
     pub answer: u8,
-    /// The number of the hash that it sent.
-    hash: Option<usize>,
+    /// The hash that it sent or heard.
+    hash: Option<Entry>,
     /// Whether it is a backing of the period.
     backs: bool,
 }
@@ -30,7 +30,7 @@ pub struct Ran {
     /// Of each peer: the number of calls after which it has fetched from every
     /// other; the place of its hash after these, and the entry.
     fetched: Vec<Option<usize>>,
-    sent: Vec<Option<(usize, usize)>>,
+    sent: Vec<Option<(usize, Entry)>>,
     /// Whose hashes of these it has heard before its last back, if that comes after
     /// its fetches.
     pub heard: Vec<BTreeSet<usize>>,
@@ -65,10 +65,10 @@ impl Ran {
         places.try_fold(0, |last: usize, place| Some(last.max(place? + 1)))
     }
 
-    fn hash_of(&self, peer: usize) -> Option<(usize, usize)> {
+    fn hash_of(&self, peer: usize) -> Option<(usize, Entry)> {
         let from = self.fetched[peer - 1]?;
         let at = self.place(from, Step::Hash { peer, period: self.period })?;
-        Some((at, self.calls[at].hash?))
+        Some((at, self.calls[at].hash.clone()?))
     }
 
     fn heard_by(&self, peer: usize) -> BTreeSet<usize> {
@@ -77,10 +77,15 @@ impl Ran {
         let Some(last) = last.filter(|last| from.is_some_and(|from| from <= *last)) else {
             return BTreeSet::new();
         };
-        let heard = |other: &usize| {
-            let sent = self.sent[*other - 1];
-            let place = sent.and_then(|(at, entry)| self.place(at, Step::Hear { peer, entry }));
-            place.is_some_and(|place| place < last)
+        let hears = |call: &Called, sent: &Entry| match call.step {
+            Some(Step::Hear { peer: j, .. }) => j == peer && call.hash.as_ref() == Some(sent),
+            _ => false,
+        };
+        let heard = |other: &usize| match &self.sent[*other - 1] {
+            Some((at, sent)) if *at < last => {
+                self.calls[*at..last].iter().any(|call| hears(call, sent))
+            }
+            _ => false,
         };
         (1..=self.pair.table.n).filter(heard).collect()
     }
@@ -118,7 +123,7 @@ impl Ran {
 
     /// Whether all peers fetch before one sends its hash.
     pub fn fetches_come_first(&self) -> bool {
-        let hashes = self.sent.iter().map(|sent| sent.map(|(at, _)| at));
+        let hashes = self.sent.iter().map(|sent| sent.as_ref().map(|(at, _)| *at));
         self.fetched.iter().max() <= hashes.min().as_ref()
     }
 
@@ -156,9 +161,9 @@ fn called(pair: &mut Pair, period: usize, bytes: &[u8]) -> Called {
     let hash = match step {
         Some(Step::Hash { peer: signer, period }) if answer == 0 => {
             let board = pair.state.peer(signer).board(&pair.table, period);
-            let hash = Entry::Hash { signer, period, board };
-            pair.state.bag.iter().position(|entry| *entry == hash)
+            Some(Entry::Hash { signer, period, board })
         }
+        Some(Step::Hear { entry, .. }) if answer == 0 => pair.state.bag.get(entry).cloned(),
         _ => None,
     };
     Called { step, answer, hash, backs: answer == 0 && due == Some(period) }

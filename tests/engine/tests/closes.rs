@@ -76,6 +76,14 @@ fn between(ran: &Ran, hits: &mut Hits) {
     hits.add("a receipt", ran.any(|step| matches!(step, Step::Receipt { .. })));
     hits.add("a close", ran.any(|step| matches!(step, Step::Close { .. })));
     hits.add("a publish", ran.any(|step| matches!(step, Step::Publish { .. })));
+    let clear =
+        |of: bool| ran.any(|step| matches!(step, Step::Clear { period } if is_of(*period) == of));
+    hits.add("a clear of another period", clear(false));
+    hits.add("a clear of the period, once all have backed it", clear(true));
+    let early = |call: &Called| {
+        matches!(call.step, Some(Step::Clear { period }) if is_of(period)) && call.answer == 9
+    };
+    hits.add("a clear of the period before that", ran.calls.iter().any(early));
     hits.add("an up", ran.any(|step| matches!(step, Step::Up { .. })));
     hits.add("a fetch or hash of another period", ran.any(other));
     let refused = |call: &Called| call.answer != 0;

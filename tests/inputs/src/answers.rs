@@ -42,6 +42,7 @@ pub static ROWS: &[Row] = &[
     row(16, "false backing", &["peer", "period", "board"], &[0, 5, 6, 7, 10, 13]),
     row(17, "down", &["peer"], &[0, 5, 6, 7]),
     row(18, "up", &["peer"], &[0, 5, 6, 7]),
+    row(19, "clear", &["period"], &[0, 5, 6, 9]),
 ];
 
 /// The row of an op; the first one if there is no such op.

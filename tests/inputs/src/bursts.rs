@@ -2,6 +2,8 @@
 //! outsider do. Each burst is then shuffled, repeated or lost. `offers` has what
 //! members do.
 
+use crate::answers::last_op;
+use crate::clears::likely_clear;
 use crate::making::Making;
 use crate::period::posts;
 use crate::steps::{all_items, uniform};
@@ -30,7 +32,7 @@ impl Bursts<'_, '_> {
             if self.chance(60) {
                 self.all_up();
             }
-            match self.below(17) {
+            match self.below(18) {
                 0..=3 => self.offer(),
                 4 => self.close_some(),
                 5..=6 => self.commit(),
@@ -42,6 +44,7 @@ impl Bursts<'_, '_> {
                 13 => self.receipts(),
                 14 => self.flood(),
                 15 => self.offer_again(),
+                16 => self.clear(),
                 _ => self.chatter(),
             }
         }
@@ -165,6 +168,16 @@ impl Bursts<'_, '_> {
         self.deliver(round);
     }
 
+    /// Old hashes are cleared, and now and then sent again.
+    fn clear(&mut self) {
+        let Making { random, table, state, .. } = &mut *self.making;
+        let clear = likely_clear(random, table, state);
+        self.deliver(vec![clear]);
+        if let (Step::Clear { period }, true) = (clear, self.chance(50)) {
+            self.for_each_honest(|peer| Step::Hash { peer, period });
+        }
+    }
+
     /// A peer drops out, misses something and comes back.
     fn outage(&mut self) {
         let peer = 1 + self.below(self.making.table.n);
@@ -186,7 +199,7 @@ impl Bursts<'_, '_> {
             let length = [13, 13, 13, 0, 12, 14][self.below(6)];
             let mut bytes = self.making.random.bytes(length);
             if self.chance(70) && length == 13 {
-                bytes[0] %= 20;
+                bytes[0] %= last_op() + 2;
             }
             self.making.call_any(bytes);
         }

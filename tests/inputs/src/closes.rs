@@ -145,8 +145,8 @@ impl Closing<'_, '_> {
     }
 
     /// Whether a call may stand here: it takes no entry that is needed, brings
-    /// nobody down during the exchange nor up who stays down, and is no backing of
-    /// the period by a peer that has to fetch first.
+    /// nobody down during the exchange nor up who stays down, is no backing of the
+    /// period by a peer that has to fetch first, and does not clear the period.
     fn may(&self, bytes: &[u8]) -> bool {
         let has_room = || self.making.state.bag.len() + self.needed() < BAG_SIZE;
         match read_step(bytes) {
@@ -154,6 +154,7 @@ impl Closing<'_, '_> {
             Ok(Step::Up { peer }) => self.fallen != Some(peer),
             Ok(Step::Back { peer }) => has_room() && !self.backs_early(peer, bytes),
             Ok(Step::Hash { .. } | Step::Publish { .. }) => has_room(),
+            Ok(Step::Clear { period }) => period != self.period || !self.is_taken(bytes),
             _ => true,
         }
     }
@@ -161,7 +162,12 @@ impl Closing<'_, '_> {
     fn backs_early(&self, peer: usize, bytes: &[u8]) -> bool {
         self.unready.contains(&peer)
             && self.making.state.peer(peer).c == self.period
-            && step(&self.making.table, &mut self.making.state.clone(), bytes) == 0
+            && self.is_taken(bytes)
+    }
+
+    /// Whether a call would be answered 0.
+    fn is_taken(&self, bytes: &[u8]) -> bool {
+        step(&self.making.table, &mut self.making.state.clone(), bytes) == 0
     }
 
     /// The number of entries that the exchange still needs, and at most so many

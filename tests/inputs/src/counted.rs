@@ -31,6 +31,10 @@ fn with_repeats(random: &mut Random, number: usize, op: u8) -> Vec<u8> {
     let mut making = good(random, number);
     let done: Vec<Vec<u8>> = making.steps.iter().filter(|step| step[0] == op).cloned().collect();
     making.wander(20);
+    if op == 12 {
+        // A clear would give its entry another number.
+        making.steps.retain(|step| step[0] != 19);
+    }
     for step in done {
         for _ in 0..making.random.between(1, 3) {
             let first = making.steps.iter().position(|other| *other == step);

@@ -80,10 +80,13 @@ impl Closing<'_, '_> {
             };
             self.unready = tasks[at + 1..].iter().filter_map(fetcher).collect();
         }
+        if self.making.random.once_in(4) {
+            self.call(Step::Clear { period: self.period });
+        }
         self.roam(6);
     }
 
-    fn perform(&mut self, task: Task, sent: &mut BTreeMap<usize, usize>) {
+    fn perform(&mut self, task: Task, sent: &mut BTreeMap<usize, Entry>) {
         let period = self.period;
         match task {
             Task::Fetch { peer, other } => self.call(Step::Fetch { peer, other, period }),
@@ -91,7 +94,10 @@ impl Closing<'_, '_> {
                 self.call(Step::Hash { peer, period });
                 sent.insert(peer, self.own_hash(peer));
             }
-            Task::Hear { peer, other } => self.call(Step::Hear { peer, entry: sent[&other] }),
+            Task::Hear { peer, other } => {
+                let entry = self.number_of(&sent[&other]);
+                self.call(Step::Hear { peer, entry });
+            }
             Task::Back { peer } => self.call(Step::Back { peer }),
             Task::Down { peer } => {
                 self.call(Step::Down { peer });
@@ -100,12 +106,15 @@ impl Closing<'_, '_> {
         }
     }
 
-    /// The entry of the hash of a peer's board as it is now; if there is none, as
-    /// when the peer is down, any number.
-    fn own_hash(&self, signer: usize) -> usize {
-        let board = self.board_of(signer);
-        let hash = Entry::Hash { signer, period: self.period, board };
-        self.making.state.bag.iter().position(|entry| *entry == hash).unwrap_or(0)
+    /// The hash of a peer's board as it is now.
+    fn own_hash(&self, signer: usize) -> Entry {
+        Entry::Hash { signer, period: self.period, board: self.board_of(signer) }
+    }
+
+    /// The number that an entry has now; if it is not there, as when the peer was down,
+    /// any number.
+    fn number_of(&self, sent: &Entry) -> usize {
+        self.making.state.bag.iter().position(|entry| entry == sent).unwrap_or(0)
     }
 
     fn board_of(&self, peer: usize) -> Board {

@@ -1,5 +1,6 @@
 //! Every kind of rehearsal, and how many of each are made.
 
+use crate::clears::{cleared, full_and_cleared, shows_clears, shows_room};
 use crate::counted::*;
 use crate::given::{shows_two_days, two_days};
 use crate::odd::*;
@@ -28,7 +29,7 @@ const fn kind(times: usize, name: &'static str, make: Make, fits: fn(&Rehearsed)
     Kind { times, name, make, fits }
 }
 
-pub static KINDS: [Kind; 36] = [
+pub static KINDS: [Kind; 38] = [
     kind(34, "a run", run, |r| r.is(|o| o.answers.len() >= 20)),
     kind(16, "shuffled steps", shuffled, |r| r.is(|o| o.answers.len() >= 10)),
     kind(16, "repeated steps", repeated, |r| r.is(|o| o.answers.len() >= 10)),
@@ -68,6 +69,8 @@ pub static KINDS: [Kind; 36] = [
     kind(7, "audits from two places", two_places, |r| r.is(|o| shows_places(r, o))),
     kind(7, "a slip posted on two days", two_days, |r| r.is(|o| shows_two_days(r, o))),
     kind(7, "peers of unequal weight", unequal, |r| r.is(|o| shows_weights(r, o))),
+    kind(7, "a bag that is cleared", cleared, |r| r.is(|o| shows_clears(r, o))),
+    kind(4, "a full bag that is cleared", full_and_cleared, |r| r.is(|o| shows_room(r, o))),
     kind(6, "an audit of another season", other_audit, |r| {
         r.is_refused(3) && has_items_of_any_season(r)
     }),

@@ -11,6 +11,7 @@
 //! - `quorums`, with `unequal`: what weights decide, and numbers of peers would decide
 //!   otherwise
 //! - `given`: slips posted on two days
+//! - `clears`: hashes that are cleared, and come again
 //! - `steps`: steps of which many are taken
 //! - `making`: a rehearsal in the making, with the reference's state alongside
 //! - `period`: periods that go well, and lies that fill the bag
@@ -32,6 +33,7 @@
 pub mod answers;
 mod bursts;
 pub mod chain;
+pub mod clears;
 pub mod closes;
 mod counted;
 pub mod damaged;

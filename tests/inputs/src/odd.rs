@@ -1,5 +1,6 @@
 //! Rehearsals that are refused, and bytes of any sort.
 
+use crate::answers::last_op;
 use crate::damaged::damaged_table;
 use crate::making::Making;
 use crate::random::Random;
@@ -83,7 +84,7 @@ pub fn garbage(random: &mut Random, number: usize) -> Vec<u8> {
         return any;
     }
     if number % 3 == 1 {
-        any.iter_mut().for_each(|byte| *byte %= 20);
+        any.iter_mut().for_each(|byte| *byte %= last_op() + 2);
     }
     [random_table(random, 16), any].concat()
 }

@@ -30,7 +30,7 @@ impl Making<'_> {
 
     /// All honest peers sign the items, take each other's signatures and give
     /// their shares; the receipts follow.
-    fn gather(&mut self, period: usize, items: &[usize]) {
+    pub fn gather(&mut self, period: usize, items: &[usize]) {
         let honest = self.honest();
         let pairs = || honest.iter().flat_map(|peer| items.iter().map(|item| (*peer, *item)));
         let take = |(peer, item), other| Step::Take { peer, other, period, item };
@@ -44,7 +44,7 @@ impl Making<'_> {
     }
 
     /// All honest peers close the period, send their hashes and hear them all.
-    fn agree(&mut self, period: usize) {
+    pub fn agree(&mut self, period: usize) {
         let honest = self.honest();
         self.together(honest.iter().map(|peer| Step::Close { peer: *peer }));
         self.together(honest.iter().map(|peer| Step::Hash { peer: *peer, period }));
@@ -53,11 +53,11 @@ impl Making<'_> {
         self.together(honest.iter().flat_map(|peer| hear(*peer)));
     }
 
-    fn back(&mut self, peers: &[usize]) {
+    pub fn back(&mut self, peers: &[usize]) {
         self.together(peers.iter().map(|peer| Step::Back { peer: *peer }));
     }
 
-    fn publish(&mut self) {
+    pub fn publish(&mut self) {
         let backings = self.entries(|entry| matches!(entry, Entry::Backing { .. }));
         self.together(backings.into_iter().map(|entry| Step::Publish { entry }));
     }
@@ -87,10 +87,15 @@ impl Making<'_> {
     }
 }
 
+/// A table with a liar who can fill the bag.
+pub fn filling_table(random: &mut Random) -> Vec<u8> {
+    let (n, periods, m) = (random.between(4, 7), random.between(2, 8), random.between(8, 12));
+    Shape { n, periods, m }.honest_table(random, 1)
+}
+
 /// A rehearsal in which the bag fills.
 pub fn filled(random: &mut Random) -> Making<'_> {
-    let (n, periods, m) = (random.between(4, 7), random.between(2, 8), random.between(8, 12));
-    let text = Shape { n, periods, m }.honest_table(random, 1);
+    let text = filling_table(random);
     let mut making = Making::on(random, text);
     making.fill();
     making

@@ -22,7 +22,7 @@ use std::ops::Range;
 pub const MOST_STEPS: usize = 250;
 
 /// Each with the last answer, or the number that refuses it as a whole.
-pub static SORTS: [Sort; 26] = [
+pub static SORTS: [Sort; 27] = [
     sort("a last answer of 5", |random| ending(random, 5), &[5]),
     sort("a last answer of 6", |random| ending(random, 6), &[6]),
     sort("a last answer of 7", |random| ending(random, 7), &[7]),
@@ -43,6 +43,7 @@ pub static SORTS: [Sort; 26] = [
     sort("a hear of no hash", |random| ending_with(random, 10, 10), &[10]),
     sort("a publish of no backing", |random| ending_with(random, 12, 10), &[10]),
     sort("a publish of too few backings", |random| ending_with(random, 12, 12), &[12]),
+    sort("a clear before the last back", |random| ending_with(random, 19, 9), &[9]),
     sort("a chain of few links", |random| chain(random, 3, 4), &[12]),
     sort("a damaged header", |random| damaged(random, 0), &[1]),
     sort("damaged pairs", |random| damaged(random, 1), &[2]),

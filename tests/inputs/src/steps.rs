@@ -1,6 +1,7 @@
 //! Random steps, of which many are taken.
 
 use crate::answers::{last_op, row_of};
+use crate::clears::likely_clear;
 use crate::peers::quorum_of;
 use crate::random::Random;
 use reference::form::{bits, write_step, Step};
@@ -10,7 +11,7 @@ use reference::table::Table;
 /// How often each op is chosen: as often as it is here.
 const OPS: &[u8] = &[
     1, 1, 1, 2, 2, 2, 3, 3, 3, 4, 4, 4, 4, 5, 5, 5, 6, 6, 7, 8, 8, 9, 9, 10, 10, 10, 11, 11, 12,
-    12, 13, 14, 15, 16, 17, 18, 18, 18,
+    12, 13, 14, 15, 16, 17, 18, 18, 18, 19, 19,
 ];
 
 /// The peers that are not honest.
@@ -218,6 +219,7 @@ fn likely(random: &mut Random, table: &Table, state: &State) -> Vec<u8> {
             let down = table.honest.iter().filter(|j| !state.peer(**j).up);
             Step::Up { peer: random.pick(down).copied().unwrap_or(peer) }
         }
+        19 => likely_clear(random, table, state),
         _ => return uniform_of(random, table, op),
     };
     write_step(step).to_vec()

@@ -117,6 +117,8 @@ struct Tally {
     clashes_of_places: usize,
     receipts_of_places: usize,
     runs_with_a_share_given_before: usize,
+    /// Clears refused since a period was not backed, and such that were taken.
+    clears: [usize; 2],
 }
 
 impl Tally {
@@ -138,6 +140,11 @@ impl Tally {
         self.clashes_of_places += run.calls.iter().filter(clash).count();
         self.receipts_of_places += receipts_of_places(&run.table, &run.state);
         self.runs_with_a_share_given_before += run.was_answered(17) as usize;
+        for (at, number) in [9, 0].into_iter().enumerate() {
+            let is =
+                |(bytes, answer): &&(Vec<u8>, u8)| bytes.first() == Some(&19) && *answer == number;
+            self.clears[at] += run.calls.iter().filter(is).count();
+        }
     }
 
     fn shows_enough(&self) {
@@ -154,6 +161,7 @@ impl Tally {
         assert!(self.clashes_of_places > 300);
         assert!(self.receipts_of_places > 100);
         assert!(self.runs_with_a_share_given_before > 1000);
+        assert!(self.clears.iter().all(|clears| *clears > 1000));
     }
 }
 

@@ -43,11 +43,15 @@ fn is_counted(step: &[u8]) -> bool {
 }
 
 /// The input without the refused steps, and without those of the steps that are
-/// counted which were accepted before.
+/// counted which were accepted before. After a clear a publish is another one.
 fn without_idle_steps(rehearsed: &Rehearsed) -> [Vec<u8>; 2] {
     let mut seen = BTreeSet::new();
-    let is_new =
-        |step: &[u8], answer| answer != 0 || !is_counted(step) || seen.insert(step.to_vec());
+    let is_new = |step: &[u8], answer| {
+        if step[0] == 19 && answer == 0 {
+            seen.retain(|seen: &Vec<u8>| seen[0] != 12);
+        }
+        answer != 0 || !is_counted(step) || seen.insert(step.to_vec())
+    };
     [with_steps(rehearsed, |_, answer| answer == 0), with_steps(rehearsed, is_new)]
 }
 
@@ -78,8 +82,8 @@ fn of_every_kind() {
 }
 
 /// Each of the four kinds that are about totals can be missed, and those with two
-/// places, on two days and with unequal weights: a rehearsal that keeps but the first
-/// step of the op is not of that kind.
+/// places, on two days, with clears and with unequal weights: a rehearsal that keeps but
+/// the first step of the op is not of that kind.
 #[test]
 fn kinds_that_can_be_missed() {
     for (name, op) in [
@@ -89,6 +93,8 @@ fn kinds_that_can_be_missed() {
         ("two boards of one period", 12),
         ("audits from two places", 2),
         ("a slip posted on two days", 5),
+        ("a bag that is cleared", 19),
+        ("a full bag that is cleared", 19),
         ("peers of unequal weight", 5),
         ("peers of unequal weight", 6),
         ("peers of unequal weight", 9),
