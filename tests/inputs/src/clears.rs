@@ -85,8 +85,8 @@ pub fn cleared(random: &mut Random, number: usize) -> Vec<u8> {
 }
 
 /// The bag fills once all have backed a board, and before it is published. A clear makes
-/// room for it, and then the bag fills again.
-pub fn full_and_cleared(random: &mut Random, _number: usize) -> Vec<u8> {
+/// room for it; then the bag fills again. Every other time there is a clear before too.
+pub fn full_and_cleared(random: &mut Random, number: usize) -> Vec<u8> {
     let text = filling_table(random);
     let mut making = Making::on(random, text);
     let (honest, items) = (making.honest(), making.fair_items(2));
@@ -95,9 +95,9 @@ pub fn full_and_cleared(random: &mut Random, _number: usize) -> Vec<u8> {
     making.clear(0);
     making.back(&honest);
     making.together(posts(&making.table));
-    for _ in 0..2 {
+    for most in [[BAG_SIZE, BAG_SIZE / 2][number % 2], BAG_SIZE] {
         let hashes = false_hashes(making.random, &making.table);
-        making.together(hashes);
+        making.together(hashes.take(most));
         making.publish();
         making.clear(0);
         making.publish();

@@ -12,6 +12,7 @@
 //!   otherwise
 //! - `given`: slips posted on two days
 //! - `clears`: hashes that are cleared, and come again
+//! - `uncleared`: the same calls with the clears among them and without
 //! - `steps`: steps of which many are taken
 //! - `making`: a rehearsal in the making, with the reference's state alongside
 //! - `period`: periods that go well, and lies that fill the bag
@@ -59,6 +60,7 @@ pub mod sorts;
 pub mod steps;
 pub mod stored;
 pub mod tables;
+pub mod uncleared;
 pub mod unequal;
 pub mod weights;
 mod wide;

@@ -161,7 +161,7 @@ impl Tally {
         assert!(self.clashes_of_places > 300);
         assert!(self.receipts_of_places > 100);
         assert!(self.runs_with_a_share_given_before > 1000);
-        assert!(self.clears.iter().all(|clears| *clears > 1000));
+        assert!(self.clears.iter().all(|clears| *clears > 500));
     }
 }
 
