@@ -150,7 +150,7 @@ impl Asked {
 }
 
 /// A state with anything anywhere, but for the bag.
-fn scattered(random: &mut Random, table: &Table) -> State {
+pub(crate) fn scattered(random: &mut Random, table: &Table) -> State {
     let (n, periods, m) = (table.n, table.periods, table.m());
     let pairs = || (0..periods).flat_map(move |q| (0..m).map(move |i| (q, i)));
     let triples = || (1..=n).flat_map(move |k| pairs().map(move |(q, i)| (k, q, i)));

@@ -9,9 +9,12 @@
 //! - `sheets`: the same for sheets, written and read
 //! - `shrunk`: the same for rehearsals cut down, and what is promised of them
 //! - `given`: shares on lent states, and what is due
+//! - `cleared`: clears on lent states, likewise
 //! - `closes`: closes of a period, run so: what was asked of them, and what came
 //! - `altered`: tables and sheets with other texts for their items
 //! - `wrong_shares`: engines that judge by another rule what was given
+//! - `wrong_clears`: engines that clear at another time, or something else
+//! - `wrong_gains`: engines that count step files otherwise
 //! - `wrong_shrinkers`: engines that cut rehearsals down in another way
 //! - `wrong_weights`: engines that ask other quorums of peers with weights
 //! - `wrong_readers`: engines that read weights otherwise
@@ -19,6 +22,7 @@
 //! - `program`: the proved programs, from input to output
 
 pub mod altered;
+pub mod cleared;
 pub mod closes;
 pub mod given;
 pub mod layout;
@@ -29,6 +33,8 @@ pub mod row14;
 pub mod sheets;
 pub mod shrunk;
 pub mod tables;
+pub mod wrong_clears;
+pub mod wrong_gains;
 pub mod wrong_readers;
 pub mod wrong_reports;
 pub mod wrong_shares;
@@ -49,6 +55,8 @@ pub struct Engine {
     pub rehearse: fn(&[u8], &mut [u8], &mut [u8]) -> usize,
     /// Input and room for the step numbers that are left: the text's length.
     pub shrink: fn(&[u8], &mut [u8]) -> usize,
+    /// Step file: the most that the bag can gain by it.
+    pub gain: fn(&[u8]) -> usize,
     /// Table, state, period, room for the sheet, and for its length: the answer.
     pub write_sheet: WriteSheet,
     /// Sheet: the answer.
@@ -67,6 +75,7 @@ pub const PROVED: Engine = Engine {
     step: board_step,
     rehearse: board_rehearse,
     shrink: board_shrink,
+    gain: board_gain,
     write_sheet: board_write_sheet,
     check_sheet: board_check_sheet,
     sheet_item: board_sheet_item,
@@ -79,6 +88,7 @@ pub const PLAIN: Engine = Engine {
     step: plain::step,
     rehearse: plain::rehearse,
     shrink: plain::shrink,
+    gain: plain::gain,
     write_sheet: plain::write_sheet,
     check_sheet: plain::check_sheet,
     sheet_item: plain::sheet_item,
@@ -116,6 +126,7 @@ mod c {
             out: *mut u8,
             out_length: usize,
         ) -> usize;
+        pub fn board_gain(steps: *const u8, n: usize) -> usize;
         pub fn board_sheet_most() -> usize;
         pub fn board_write_sheet(
             table: *const u8,
@@ -179,6 +190,11 @@ pub fn board_shrink_most() -> usize {
 pub fn board_shrink(input: &[u8], out: &mut [u8]) -> usize {
     // Each pointer goes with its slice's length.
     unsafe { c::board_shrink(input.as_ptr(), input.len(), out.as_mut_ptr(), out.len()) }
+}
+
+pub fn board_gain(steps: &[u8]) -> usize {
+    // The pointer goes with its slice's length.
+    unsafe { c::board_gain(steps.as_ptr(), steps.len()) }
 }
 
 pub fn board_sheet_most() -> usize {

@@ -25,6 +25,7 @@
 //!   those that are refused
 //! - `kinds`: every kind of rehearsal
 //! - `refused`: rehearsals whose last step is refused, and how they are cut short
+//! - `step_files`: step files, to be counted
 //! - `closes`, with `earlier` and `exchange`: closes of a period that come through,
 //!   and such as lack something
 //! - `answers`: which answers the steps got
@@ -57,6 +58,7 @@ mod runs;
 pub mod seasons;
 pub mod sheets;
 pub mod sorts;
+pub mod step_files;
 pub mod steps;
 pub mod stored;
 pub mod tables;

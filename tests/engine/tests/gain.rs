@@ -1,0 +1,46 @@
+//! Step files counted, of document 02's P11, new ones in each run: the same counts, and
+//! every wrong one is found.
+
+use engine::altered::must_be_found;
+use engine::wrong_gains::{RIGHT_GAIN, WRONG_GAINS};
+use engine::{Engine, ENGINES, PLAIN};
+use inputs::random::run_seed;
+use inputs::sorts::in_turn;
+use inputs::step_files::SORTS;
+use reference::form::STEP_LENGTH;
+use reference::gain::gain;
+
+const FILES: usize = 3_000;
+
+#[test]
+fn same_counts() {
+    let (seed, mut counts, mut tails, mut long) = (run_seed(), Vec::new(), 0, 0);
+    for number in 0..FILES {
+        let (sort, file) = in_turn(&SORTS, seed, number);
+        let due = gain(&file);
+        for Engine { name, gain, .. } in ENGINES {
+            let place = format!("seed {seed}, number {number}, {}, {name}", sort.name);
+            assert_eq!(gain(&file), due, "{place}");
+        }
+        counts.push(due);
+        tails += !file.len().is_multiple_of(STEP_LENGTH) as usize;
+        long += (file.len() > 65_536) as usize;
+    }
+    let at_most = |most: usize| counts.iter().filter(|count| **count <= most).count();
+    let (none, few) = (at_most(0), at_most(256));
+    println!("{none} counts of 0, {few} of at most 256, the most {:?}", counts.iter().max());
+    println!("{tails} files with a short tail, {long} longer than the program takes");
+    assert!(none > 100 && few - none > 500 && FILES - few > 100 && tails > 500 && long > 100);
+}
+
+#[test]
+fn every_wrong_count_is_found() {
+    let seed = run_seed();
+    let files: Vec<Vec<u8>> = (0..600).map(|number| in_turn(&SORTS, seed, number).1).collect();
+    let found =
+        |engine: &Engine| files.iter().filter(|file| (engine.gain)(file) != gain(file)).count();
+    for engine in WRONG_GAINS {
+        must_be_found(engine.name, found(&engine));
+    }
+    assert_eq!((found(&PLAIN), found(&RIGHT_GAIN)), (0, 0));
+}
