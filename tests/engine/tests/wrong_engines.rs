@@ -1,11 +1,14 @@
 //! The comparison can fail: each of the engines that document 01 wants rejected,
-//! each that lets items be held which clash, each that gives shares by another rule, and
-//! each that weighs peers otherwise, differs from the reference somewhere in a random
-//! run or on a lent state.
+//! each that lets items be held which clash, each that gives shares by another rule, each
+//! that weighs peers otherwise, and each that clears otherwise, differs from the reference
+//! somewhere in a random run or on a lent state.
 
 use engine::altered::{is_audit, must_be_found, table_with};
+use engine::cleared;
 use engine::given::{Asked, Case, COMBINATIONS};
 use engine::pair::Pair;
+use engine::wrong_clears::{BACKINGS_ASKED, DISHONEST_LEFT, RIGHT_CLEARS};
+use engine::wrong_clears::{WRONG_FORMS, WRONG_REMOVALS, WRONG_TIMES};
 use engine::wrong_shares::{LATER_COUNTED, RIGHT_SHARES, WRONG_ELSEWHERE, WRONG_SHARES};
 use engine::wrong_weights::{RIGHT_WEIGHTS, WRONG_WEIGHTS};
 use engine::{Engine, PLAIN};
@@ -145,6 +148,38 @@ fn every_wrong_share_is_found_on_lent_states() {
         must_be_found(engine.name, found(&engine));
     }
     assert_eq!((found(&PLAIN), found(&RIGHT_SHARES)), (0, 0));
+}
+
+/// In runs from the fresh state, where honest peers' counters say what backings the bag
+/// has, and dishonest peers hear nothing. Now and then no peer is honest.
+#[test]
+fn every_wrong_clear_is_found() {
+    let table = |random: &mut Random| {
+        let (peers, shape) = (Peers::random(random, 4), Shape { n: 4, periods: 3, m: 3 });
+        match random.once_in(3) {
+            true => shape.table_with(random, &peers, peers.least(), &[1, 2, 3, 4]),
+            false => shape.honest_table(random, 1),
+        }
+    };
+    let is_lent = |engine: &&Engine| {
+        [BACKINGS_ASKED, DISHONEST_LEFT].iter().any(|lent| lent.name == engine.name)
+    };
+    let engines = WRONG_TIMES.iter().chain(&WRONG_REMOVALS).filter(|engine| !is_lent(engine));
+    let engines: Vec<Engine> = engines.chain(&WRONG_FORMS).copied().collect();
+    found_but(&engines, &[RIGHT_CLEARS], table);
+}
+
+/// On lent states, where the true engine is right.
+#[test]
+fn every_wrong_clear_is_found_on_lent_states() {
+    let seed = run_seed();
+    let asked = |number| cleared::Asked::new(&mut Random::new(seed, number));
+    let all: Vec<cleared::Asked> = (0..1_000).map(asked).collect();
+    let found = |engine: &Engine| all.iter().filter(|asked| asked.compare(engine).is_err()).count();
+    for engine in WRONG_TIMES.iter().chain(&WRONG_REMOVALS) {
+        must_be_found(engine.name, found(engine));
+    }
+    assert_eq!((found(&PLAIN), found(&RIGHT_CLEARS)), (0, 0));
 }
 
 /// Each of the engines is found in some run on such tables.

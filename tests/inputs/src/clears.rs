@@ -21,12 +21,18 @@ pub fn is_hash_of(entry: &Entry, period: usize) -> bool {
     matches!(entry, Entry::Hash { period: q, .. } if *q == period)
 }
 
-/// A clear: mostly of a period that has hashes and that every honest peer has backed.
+/// A clear: mostly of a period that has hashes and that every honest peer has backed, or
+/// of the first that one of them has not.
 pub fn likely_clear(random: &mut Random, table: &Table, state: &State) -> Step {
     let has_hashes = |period: &usize| state.bag.iter().any(|entry| is_hash_of(entry, *period));
-    let due = random.pick((0..backed_by_all(table, state)).filter(has_hashes));
+    let next = backed_by_all(table, state);
     let any = random.below(table.periods);
-    Step::Clear { period: due.filter(|_| !random.once_in(5)).unwrap_or(any) }
+    let period = match random.below(5) {
+        0 => any,
+        1 => next.min(table.periods - 1),
+        _ => random.pick((0..next).filter(has_hashes)).unwrap_or(any),
+    };
+    Step::Clear { period }
 }
 
 impl Making<'_> {

@@ -91,7 +91,7 @@ fn written(steps: Vec<Step>) -> Vec<Vec<u8>> {
 }
 
 /// The way of a board, whose hashes are there: each honest peer hears them and backs,
-/// and so do liars. It is published after each, as far as that goes.
+/// and so do liars. It is published after each, as far as that goes, and often cleared.
 fn board(random: &mut Random, table: &Table, state: &State) -> Vec<Vec<u8>> {
     let peers = in_turn(random, table, 1..=table.n);
     let first = *peers.iter().find(|peer| table.is_honest(**peer)).expect("an honest peer");
@@ -113,6 +113,9 @@ fn board(random: &mut Random, table: &Table, state: &State) -> Vec<Vec<u8>> {
         }
         // The first of these backings, if there was room for it.
         steps.push(Step::Publish { entry: state.bag.len().min(255) });
+    }
+    if random.once_in(2) {
+        steps.push(Step::Clear { period });
     }
     written(steps)
 }
