@@ -39,7 +39,7 @@ impl Pair {
     }
 
     /// Entries of every kind, as no steps may lead to, up to so many or a full
-    /// bag.
+    /// bag. Any peers hear the hashes, and now and then all have backed a period.
     pub fn stuff(&mut self, random: &mut Random, most: usize) {
         for _ in 0..random.between(1, most) {
             let signer = random.between(1, self.table.n);
@@ -51,6 +51,17 @@ impl Pair {
                 1 => Entry::Backing { signer, period, board },
                 _ => Entry::Board { period, board },
             });
+        }
+        let State { bag, peers, .. } = &mut self.state;
+        let is_hash = |number: &usize| matches!(bag[*number], Entry::Hash { .. });
+        for peer in peers.iter_mut() {
+            peer.heard.extend(random.some_of(30, (0..bag.len()).filter(is_hash)));
+        }
+        if random.once_in(2) {
+            let least = random.between(1, self.table.periods);
+            for peer in peers.iter_mut() {
+                (peer.p, peer.c) = (peer.p.max(least), peer.c.max(least));
+            }
         }
         self.buffer = encode(&self.state);
     }

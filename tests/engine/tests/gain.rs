@@ -2,11 +2,13 @@
 //! every wrong one is found.
 
 use engine::altered::must_be_found;
+use engine::cleared::Asked;
 use engine::wrong_gains::{RIGHT_GAIN, WRONG_GAINS};
 use engine::{Engine, ENGINES, PLAIN};
-use inputs::random::run_seed;
+use inputs::random::{run_seed, Random};
 use inputs::sorts::in_turn;
 use inputs::step_files::SORTS;
+use inputs::steps::random_steps;
 use reference::form::STEP_LENGTH;
 use reference::gain::gain;
 
@@ -31,6 +33,31 @@ fn same_counts() {
     println!("{none} counts of 0, {few} of at most 256, the most {:?}", counts.iter().max());
     println!("{tails} files with a short tail, {long} longer than the program takes");
     assert!(none > 100 && few - none > 500 && FILES - few > 100 && tails > 500 && long > 100);
+}
+
+/// On lent states the bag gains no more than the count either.
+#[test]
+fn never_more_on_lent_states() {
+    let (seed, mut entered, mut reached) = (run_seed(), 0, 0);
+    for number in 0..1_500 {
+        let mut random = Random::new(seed, number);
+        let (mut pair, mut file, mut gained) = (Asked::new(&mut random).pair, Vec::new(), 0);
+        for _ in 0..random.between(1, 40) {
+            for step in random_steps(&mut random, &pair.table, &pair.state) {
+                let before = pair.state.bag.len();
+                pair.call(&step);
+                gained += pair.state.bag.len().saturating_sub(before);
+                // Others than 13 bytes count nothing, and bring nothing.
+                file.extend((step.len() == STEP_LENGTH).then_some(step).into_iter().flatten());
+            }
+        }
+        let count = gain(&file);
+        assert!(gained <= count, "seed {seed}, number {number}: {gained} of {count}");
+        entered += gained;
+        reached += (gained == count && count > 0) as usize;
+    }
+    println!("{entered} entries; {reached} files that reach their count");
+    assert!(entered > 300 && reached > 5);
 }
 
 #[test]

@@ -146,7 +146,7 @@ impl Closing<'_, '_> {
 
     /// Whether a call may stand here: it takes no entry that is needed, brings
     /// nobody down during the exchange nor up who stays down, is no backing of the
-    /// period by a peer that has to fetch first, and does not clear the period.
+    /// period by a peer that has to fetch first, and clears nothing that it should not.
     fn may(&self, bytes: &[u8]) -> bool {
         let has_room = || self.making.state.bag.len() + self.needed() < BAG_SIZE;
         match read_step(bytes) {
@@ -154,9 +154,19 @@ impl Closing<'_, '_> {
             Ok(Step::Up { peer }) => self.fallen != Some(peer),
             Ok(Step::Back { peer }) => has_room() && !self.backs_early(peer, bytes),
             Ok(Step::Hash { .. } | Step::Publish { .. }) => has_room(),
-            Ok(Step::Clear { period }) => period != self.period || !self.is_taken(bytes),
+            Ok(Step::Clear { period }) => self.may_clear(period) || !self.is_taken(bytes),
             _ => true,
         }
+    }
+
+    /// Whether a clear may be taken here: it is of another period, and the bag is not
+    /// meant to be full.
+    fn may_clear(&self, period: usize) -> bool {
+        period != self.period && !self.is_nearly_full()
+    }
+
+    pub fn is_nearly_full(&self) -> bool {
+        self.making.state.bag.len() > BAG_SIZE - 56
     }
 
     fn backs_early(&self, peer: usize, bytes: &[u8]) -> bool {

@@ -80,7 +80,7 @@ impl Closing<'_, '_> {
             };
             self.unready = tasks[at + 1..].iter().filter_map(fetcher).collect();
         }
-        if self.making.random.once_in(4) {
+        if self.making.random.once_in(4) && !self.is_nearly_full() {
             self.call(Step::Clear { period: self.period });
         }
         self.roam(6);
