@@ -39,7 +39,7 @@ impl Pair {
     }
 
     /// Entries of every kind, as no steps may lead to, up to so many or a full
-    /// bag. Any peers hear the hashes, and now and then all have backed a period.
+    /// bag.
     pub fn stuff(&mut self, random: &mut Random, most: usize) {
         for _ in 0..random.between(1, most) {
             let signer = random.between(1, self.table.n);
@@ -52,6 +52,12 @@ impl Pair {
                 _ => Entry::Board { period, board },
             });
         }
+        self.buffer = encode(&self.state);
+    }
+
+    /// Any peers hear the hashes, dishonest ones too, and now and then all have backed
+    /// some periods.
+    pub fn stir(&mut self, random: &mut Random) {
         let State { bag, peers, .. } = &mut self.state;
         let is_hash = |number: &usize| matches!(bag[*number], Entry::Hash { .. });
         for peer in peers.iter_mut() {

@@ -120,6 +120,7 @@ fn same_verdicts() {
         for round in 0..100 {
             if round == 50 {
                 pair.stuff(&mut random, 800);
+                pair.stir(&mut random);
                 full += (pair.state.bag.len() == 256) as usize;
             }
             for step in random_steps(&mut random, &pair.table, &pair.state) {
