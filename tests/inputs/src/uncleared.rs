@@ -49,6 +49,8 @@ pub struct Seen {
 pub enum Numbers {
     Uncleared,
     Cleared,
+    /// Both get the same ones, as they should not.
+    Untranslated,
 }
 
 impl Both {
@@ -77,6 +79,7 @@ impl Both {
                     None => self.leave_out(bytes),
                 }
             }
+            (Numbers::Untranslated, _) => self.call_each(bytes, bytes),
         };
         told.map_err(|wrong| format!("{bytes:?}, numbers as {numbers:?}: {wrong}"))
     }

@@ -8,8 +8,9 @@ use inputs::rehearsed::Rehearsed;
 use inputs::steps::random_steps;
 use inputs::tables::{random_table, Shape};
 use inputs::uncleared::{Both, Numbers, Seen};
-use reference::form::write_step;
-use reference::table::{read_table, Table};
+use reference::form::{write_step, Step};
+use reference::state::BAG_SIZE;
+use reference::table::{read_table, write_table, Table};
 
 /// So many rounds, each of all kinds; and so many random runs.
 const ROUNDS: usize = 4;
@@ -50,26 +51,28 @@ impl Tally {
         assert!(times.iter().chain(&self.ends).all(|times| *times >= least));
         match numbers {
             Numbers::Uncleared => assert!(unknown >= least),
-            Numbers::Cleared => assert_eq!(unknown, 0),
+            Numbers::Cleared | Numbers::Untranslated => assert_eq!(unknown, 0),
         }
     }
 }
 
-/// The calls up to the end of the comparison.
-fn run(both: &mut Both, numbers: Numbers, steps: &[Vec<u8>], place: &str) {
+/// The calls up to the end of the comparison; or how both differ.
+fn run(both: &mut Both, numbers: Numbers, steps: &[Vec<u8>]) -> Result<(), String> {
     for bytes in steps {
         if both.end.is_some() {
-            return;
+            return Ok(());
         }
-        both.call(numbers, bytes).unwrap_or_else(|wrong| panic!("{place}: {wrong}"));
+        both.call(numbers, bytes)?;
     }
+    Ok(())
 }
 
 /// Both hold the same at the end, if there was no other before.
-fn finish(both: &mut Both, place: &str) {
-    if both.end.is_none() {
-        both.same_held().unwrap_or_else(|wrong| panic!("{place}: {wrong}"));
+fn finish(both: &mut Both) -> Result<(), String> {
+    if both.end.is_some() {
+        return Ok(());
     }
+    both.same_held()
 }
 
 /// Whole rehearsals of every kind: their numbers are taken for those of the uncleared run,
@@ -86,8 +89,8 @@ fn rehearsals() {
             let place = format!("seed {seed}, number {number}, {}", kind.name);
             let steps: Vec<Vec<u8>> = rehearsed.calls().map(|(step, _)| step.to_vec()).collect();
             let mut both = Both::fresh(&outcome.table);
-            run(&mut both, numbers, &steps, &place);
-            finish(&mut both, &place);
+            let same = run(&mut both, numbers, &steps).and_then(|()| finish(&mut both));
+            same.unwrap_or_else(|wrong| panic!("{place}: {wrong}"));
             tally.add(&both);
         }
         tally.shows(numbers, 3);
@@ -109,32 +112,71 @@ fn table(random: &mut Random, number: usize) -> Table {
     read_table(&text).expect("a valid table")
 }
 
-/// Random steps that either run makes likely, and a flood of hashes between them.
+/// A run of random steps that either makes likely, and a flood of hashes between them.
+fn random_run(random: &mut Random, number: usize, numbers: Numbers) -> Result<Both, String> {
+    let table = table(random, number);
+    let mut both = Both::fresh(&table);
+    for round in 0..600 {
+        let state = match numbers {
+            Numbers::Cleared => &both.cleared,
+            _ => &both.uncleared,
+        };
+        let mut steps = random_steps(random, &table, state);
+        if round == 400 && number % 2 == 1 && can_fill(&table) {
+            let flood = posts(&table).chain(false_hashes(random, &table));
+            steps = flood.map(|step| write_step(step).to_vec()).collect();
+        }
+        run(&mut both, numbers, &steps)?;
+    }
+    finish(&mut both)?;
+    Ok(both)
+}
+
 #[test]
 fn random_runs() {
     let seed = run_seed();
     for numbers in [Numbers::Uncleared, Numbers::Cleared] {
         let mut tally = Tally::default();
         for number in 0..RUNS {
-            let mut random = Random::new(seed, number);
-            let (table, place) =
-                (table(&mut random, number), format!("seed {seed}, number {number}"));
-            let mut both = Both::fresh(&table);
-            for round in 0..600 {
-                let state = match numbers {
-                    Numbers::Uncleared => &both.uncleared,
-                    Numbers::Cleared => &both.cleared,
-                };
-                let mut steps = random_steps(&mut random, &table, state);
-                if round == 400 && number % 2 == 1 && can_fill(&table) {
-                    let flood = posts(&table).chain(false_hashes(&mut random, &table));
-                    steps = flood.map(|step| write_step(step).to_vec()).collect();
-                }
-                run(&mut both, numbers, &steps, &place);
-            }
-            finish(&mut both, &place);
-            tally.add(&both);
+            let both = random_run(&mut Random::new(seed, number), number, numbers);
+            tally
+                .add(&both.unwrap_or_else(|wrong| panic!("seed {seed}, number {number}: {wrong}")));
         }
         tally.shows(numbers, 20);
     }
+}
+
+/// The comparison can fail: it does where numbers are not translated.
+#[test]
+fn untranslated_numbers_differ() {
+    let seed = run_seed();
+    let run = |number| random_run(&mut Random::new(seed, number), number, Numbers::Untranslated);
+    let differing = (0..100).filter(|number| run(*number).is_err()).count();
+    println!("{differing} of 100 runs differ");
+    assert!(differing > 20);
+}
+
+/// With 256 entries every number names one. A call that names none of the cleared run is
+/// then left out of the other. The next new entry is the end.
+#[test]
+fn a_number_for_every_entry() {
+    let text = write_table(16, 11, 0, 8, &[vec![0, 0, 0, 7, 2]]);
+    let mut both = Both::fresh(&read_table(&text).expect("a valid table"));
+    let mut call = |step: Step| {
+        assert_eq!(run(&mut both, Numbers::Cleared, &[write_step(step).to_vec()]), Ok(()));
+        (both.cleared.bag.len(), both.uncleared.bag.len(), both.seen.left_out, both.end)
+    };
+    let hash =
+        |k: usize| Step::FalseHash { peer: 1 + k % 16, period: k / 16 % 8, board: k as u64 / 128 };
+    call(Step::Post { item: 0 });
+    for k in 0..BAG_SIZE {
+        call(hash(k));
+    }
+    // 16 peers have two hashes of a period each.
+    assert_eq!(call(Step::Clear { period: 0 }), (224, 256, 0, None));
+    assert_eq!(call(Step::Publish { entry: 224 }), (224, 256, 1, None));
+    assert_eq!(call(Step::Publish { entry: 223 }), (224, 256, 1, None));
+    assert_eq!(call(hash(0)), (225, 256, 1, None));
+    let backing = Step::FalseBacking { peer: 1, period: 0, board: 0 };
+    assert_eq!(call(backing), (226, 256, 1, Some(0)));
 }
