@@ -36,14 +36,14 @@ static const uint8_t steps[][BOARD_STEP_LENGTH] = {
 };
 
 /* the words of the ops, as a rehearsal's text has them */
-static const char *const words[BOARD_OP_UP + 1] = {
+static const char *const words[BOARD_OP_CLEAR + 1] = {
     [BOARD_OP_POST] = "post", [BOARD_OP_HAND] = "hand", [BOARD_OP_SIGN] = "sign",
     [BOARD_OP_TAKE] = "take", [BOARD_OP_SHARE] = "share", [BOARD_OP_RECEIPT] = "receipt",
     [BOARD_OP_CLOSE] = "close", [BOARD_OP_FETCH] = "fetch", [BOARD_OP_HASH] = "hash",
     [BOARD_OP_HEAR] = "hear", [BOARD_OP_BACK] = "back", [BOARD_OP_PUBLISH] = "publish",
     [BOARD_OP_FALSE_SIGNATURE] = "false-signature", [BOARD_OP_FALSE_SHARE] = "false-share",
     [BOARD_OP_FALSE_HASH] = "false-hash", [BOARD_OP_FALSE_BACKING] = "false-backing",
-    [BOARD_OP_DOWN] = "down", [BOARD_OP_UP] = "up",
+    [BOARD_OP_DOWN] = "down", [BOARD_OP_UP] = "up", [BOARD_OP_CLEAR] = "clear",
 };
 
 /* A number of two bytes, high byte first. */
@@ -68,7 +68,7 @@ static size_t length_of_table(const uint8_t *input) {
 static void print_step(unsigned long number, const uint8_t *step, size_t length) {
     uint8_t op = step[BOARD_STEP_OP_AT];
     printf("%lu", number);
-    if (op <= BOARD_OP_UP && words[op] != NULL) {
+    if (op <= BOARD_OP_CLEAR && words[op] != NULL) {
         printf(" %s", words[op]);
     }
     for (size_t i = 0; i < length && i < BOARD_STEP_LENGTH; i++) {

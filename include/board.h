@@ -7,9 +7,9 @@
  *   docs/SHEET.md    a sheet's bytes
  *   docs/PROMISES.md what is proved of these functions, and what is trusted
  *
- * Slices: a pointer and a length. Table, state, step, input and sheet may be any
- *   bytes of any length. What is written, be it state, out or sheet, or a number
- *   by its pointer, overlaps nothing else that is lent.
+ * Slices: a pointer and a length. Table, state, step, steps, input and sheet may
+ *   be any bytes of any length. What is written, be it state, out or sheet, or a
+ *   number by its pointer, overlaps nothing else that is lent.
  * Null: no pointer is ever null, also where its length is 0.
  * Alignment: none is asked of bytes; a size_t stands as C puts it.
  * Threads: there are no globals and no call keeps a pointer, so calls on
@@ -37,8 +37,9 @@ extern "C" {
  * 4: tables of season 2, whose audits name their place.
  * 5: the answer 17: a peer gives its share for an item in one period only.
  * 6: shrinking: the answer 18 and two functions.
- * 7: tables of season 3, whose peers have weights. */
-#define BOARD_VERSION 7
+ * 7: tables of season 3, whose peers have weights.
+ * 8: clearing the bag: the step 19, which was refused with 5, and a function. */
+#define BOARD_VERSION 8
 
 /* The answers, by their words. A number that is not here is a refusal too. */
 enum board_answer {
@@ -63,7 +64,8 @@ enum board_answer {
     BOARD_CLEAN = 18
 };
 
-/* The steps, by their words; beside each the fields that it uses. */
+/* The steps, by their words; beside each the fields that it uses. Clear removes
+ * from the bag the hashes of a period that every honest peer has backed. */
 enum board_op {
     BOARD_OP_POST = 1,             /* item */
     BOARD_OP_HAND = 2,             /* peer, item */
@@ -82,7 +84,8 @@ enum board_op {
     BOARD_OP_FALSE_HASH = 15,      /* peer, period, board */
     BOARD_OP_FALSE_BACKING = 16,   /* peer, period, board */
     BOARD_OP_DOWN = 17,            /* peer */
-    BOARD_OP_UP = 18               /* peer */
+    BOARD_OP_UP = 18,              /* peer */
+    BOARD_OP_CLEAR = 19            /* period */
 };
 
 /* The most that a table can have, and the most entries of a bag. Peers count
@@ -170,7 +173,8 @@ enum board_item_kind {
 #define BOARD_STATE_COUNT_AT 20088    /* the bag's entries: 2 bytes, low first */
 #define BOARD_STATE_BAG_AT 20090      /* entry e begins BOARD_ENTRY_LENGTH * e later */
 
-/* An entry of the bag. */
+/* An entry of the bag. The entries stand in the order in which they came; after a
+ * clear those that stay are numbered afresh, and what peers heard with them. */
 #define BOARD_ENTRY_LENGTH 11
 #define BOARD_ENTRY_KIND_AT 0
 #define BOARD_ENTRY_SIGNER_AT 1 /* 0 for a board */
@@ -243,6 +247,17 @@ size_t board_shrink_most(void);
  * are the function's own, some 30,000 bytes on the stack. */
 size_t board_shrink(const uint8_t *input, size_t input_length,
                     uint8_t *out, size_t out_length);
+
+/* Counts how many entries the steps, one behind the other as in a rehearsal but
+ * without a table, can add to the bag: the steps 9, 12 and 15, the different ones
+ * among the steps 16, and the steps 11, at most 8 for each value of the peer's
+ * byte. Each is told by its op's byte alone, whatever its other bytes are; the
+ * bytes behind the last whole step count for nothing.
+ * The bag never gains more. So where the count is at most BOARD_ENTRIES_MOST no
+ * step answers 13 if they are run from a fresh state.
+ * Each step 16 is compared with all steps before it: with many of them the time
+ * grows with the square of their number. */
+size_t board_gain(const uint8_t *steps, size_t steps_length);
 
 /* The length of a buffer that has room for every sheet, in bytes:
  * BOARD_SHEET_MOST. */

@@ -1,4 +1,5 @@
-/* The header twice and alone, as C99 and as C++: every function that it declares is there, and refuses what is empty. */
+/* The header twice and alone, as C99 and as C++: every function that it declares is there, and refuses what is empty,
+ * or counts nothing there. */
 #include "board.h"
 #include "board.h"
 
@@ -13,6 +14,7 @@ int main(void) {
             && board_rehearse(&table, 0, &state, 0, &out, 0) > 0
             && board_shrink_most() == BOARD_SHRINK_MOST
             && board_shrink(&table, 0, &out, 0) > 0
+            && board_gain(&step, 0) == 0
             && board_sheet_most() == BOARD_SHEET_MOST
             && board_write_sheet(&table, 0, &state, 0, 0, &sheet, 0, &length) == BOARD_HEADER
             && board_check_sheet(&sheet, 0) == BOARD_SHEET

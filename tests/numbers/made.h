@@ -65,5 +65,6 @@ void check_table_numbers(void);
 void check_state_numbers(void);
 void check_sheet_numbers(void);
 void check_shrink_numbers(void);
+void check_gain_numbers(void);
 
 #endif

@@ -7,6 +7,7 @@ int main(void) {
     check_state_numbers();
     check_sheet_numbers();
     check_shrink_numbers();
+    check_gain_numbers();
     printf("tests/numbers: every number of include/board.h is the engine's\n");
     return EXIT_SUCCESS;
 }

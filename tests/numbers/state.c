@@ -147,6 +147,17 @@ static void check_board(int period, uint64_t board) {
     CHECK(as_expected());
 }
 
+/* A dishonest peer's hashes of one board after the other, until the bag is full. */
+static void check_full(uint64_t board) {
+    for (; entries < BOARD_ENTRIES_MOST; board++) {
+        CHECK(STEP(.op = BOARD_OP_FALSE_HASH, .peer = LIAR, .period = 2, .board = board) == BOARD_DONE);
+        expect_entry(BOARD_ENTRY_HASH, LIAR, 2, board);
+        CHECK(as_expected());
+    }
+    CHECK(STEP(.op = BOARD_OP_FALSE_HASH, .peer = LIAR, .period = 2, .board = 0) == BOARD_FULL);
+    CHECK(as_expected());
+}
+
 /* A dishonest peer's entries, of a board with items in two bytes; and more of them until the bag is full. */
 static void check_false_entries(void) {
     uint64_t board = 1 << 3 | 1 << 9;
@@ -156,13 +167,55 @@ static void check_false_entries(void) {
     CHECK(STEP(.op = BOARD_OP_FALSE_BACKING, .peer = LIAR, .period = 2, .board = board) == BOARD_DONE);
     expect_entry(BOARD_ENTRY_BACKING, LIAR, 2, board);
     CHECK(as_expected());
-    for (uint64_t other = 1 << 10; entries < BOARD_ENTRIES_MOST; other++) {
-        CHECK(STEP(.op = BOARD_OP_FALSE_HASH, .peer = LIAR, .period = 2, .board = other) == BOARD_DONE);
-        expect_entry(BOARD_ENTRY_HASH, LIAR, 2, other);
-        CHECK(as_expected());
+    check_full(1 << 10);
+}
+
+/* As many entries as there are honest peers go, from the first of them on, and those behind them move up. */
+static void expect_removed(int first) {
+    uint8_t *bag = expected + BOARD_STATE_BAG_AT;
+    entries -= HONEST;
+    memmove(bag + BOARD_ENTRY_LENGTH * first, bag + BOARD_ENTRY_LENGTH * (first + HONEST),
+            (size_t)(BOARD_ENTRY_LENGTH * (entries - first)));
+    memset(bag + BOARD_ENTRY_LENGTH * entries, 0, BOARD_ENTRY_LENGTH * HONEST);
+    expected[BOARD_STATE_COUNT_AT] = (uint8_t)(entries % 256);
+    expected[BOARD_STATE_COUNT_AT + 1] = (uint8_t)(entries / 256);
+}
+
+/* Every honest peer heard so many entries, from the first of them on, and no others. */
+static void expect_heard(int first, int count) {
+    for (int j = 1; j <= PEERS; j++) {
+        memset(expected + BOARD_STATE_HEARD_AT + 32 * (j - 1), 0, 32);
+        for (int e = first; j != LIAR && e < first + count; e++) {
+            expect_bit(BOARD_STATE_HEARD_AT, (size_t)(256 * (j - 1) + e));
+        }
     }
-    CHECK(STEP(.op = BOARD_OP_FALSE_HASH, .peer = LIAR, .period = 2, .board = 0) == BOARD_FULL);
+}
+
+/* The hashes of the periods 0 and 1 were entered first and behind the board of period 0; period 2 nobody has backed. A
+ * removed hash may be sent again, and there is room until the bag is full as before. */
+static void check_clear(void) {
+    int second = 2 * HONEST + 1;
+    CHECK(STEP(.op = BOARD_OP_CLEAR, .period = 2) == BOARD_PERIOD);
+    CHECK(STEP(.op = BOARD_OP_CLEAR, .period = PERIODS) == BOARD_NAME);
+    CHECK(STEP(.op = BOARD_OP_CLEAR, .peer = 1) == BOARD_FORM);
     CHECK(as_expected());
+    CHECK(STEP(.op = BOARD_OP_CLEAR, .period = 0) == BOARD_DONE);
+    expect_removed(0);
+    second -= HONEST;
+    expect_heard(second, HONEST);
+    CHECK(as_expected());
+    CHECK(STEP(.op = BOARD_OP_CLEAR, .period = 0) == BOARD_DONE);
+    CHECK(STEP(.op = BOARD_OP_HEAR, .peer = 1, .entry = second) == BOARD_DONE);
+    CHECK(STEP(.op = BOARD_OP_HEAR, .peer = 1, .entry = second - 1) == BOARD_UNKNOWN);
+    CHECK(as_expected());
+    CHECK(STEP(.op = BOARD_OP_CLEAR, .period = 1) == BOARD_DONE);
+    expect_removed(second);
+    expect_heard(0, 0);
+    CHECK(as_expected());
+    CHECK(STEP(.op = BOARD_OP_HASH, .peer = 1, .period = 1) == BOARD_DONE);
+    expect_entry(BOARD_ENTRY_HASH, 1, 1, 1 << 3);
+    CHECK(as_expected());
+    check_full(1 << 11);
 }
 
 static void check_down(void) {
@@ -185,5 +238,6 @@ void check_state_numbers(void) {
     check_board(0, 0);
     check_board(1, 1 << 3);
     check_false_entries();
+    check_clear();
     check_down();
 }

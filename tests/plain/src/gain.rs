@@ -1,5 +1,4 @@
-//! How many entries the steps of a file can bring into the bag, from the file
-//! alone.
+//! How many entries the steps of a file can add to the bag, from the file alone.
 
 use crate::run::STEP;
 

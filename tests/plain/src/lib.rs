@@ -14,7 +14,7 @@
 //! - `report`: the rehearsal
 //! - `shrink`: a short rehearsal that still refuses
 //! - `sheet`: a period's board as a sheet, written and read
-//! - `gain`: how many entries a step file can bring
+//! - `gain`: how many entries a step file can add to the bag
 
 mod advance;
 mod clear;
