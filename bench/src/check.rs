@@ -1,6 +1,8 @@
 //! That both engines do on the inputs what the reference does, before anything
 //! is timed. The gate compares them on many more.
 
+use crate::cleared::Cleared;
+use crate::counted::Counted;
 use crate::shown::Shown;
 use crate::shrunk::Shrunk;
 use crate::{parts, OUT};
@@ -11,18 +13,46 @@ use engine::shrunk::written;
 use engine::{Engine, ENGINES};
 use inputs::random::Random;
 use inputs::rehearsed::Rehearsed;
+use reference::form::STEP_LENGTH;
+use reference::gain::gain;
 use reference::report::rehearse;
 use std::path::Path;
 
-/// The answers to the input's steps, the same from all, with the same states.
+/// The answers to the input's steps, the same from all, with the same states; and
+/// the same sheet of it.
 pub fn input(bytes: &[u8]) -> Vec<u8> {
+    let answers = steps(bytes);
+    sheet(&Shown::over(parts(bytes).0, bytes));
+    answers
+}
+
+/// The answers alone, and the report.
+fn steps(bytes: &[u8]) -> Vec<u8> {
     let rehearsed = Rehearsed::new(bytes);
     let outcome = rehearsed.outcome.as_ref().expect("a valid table");
     let mut pair = Pair::fresh(bytes[..outcome.end].to_vec());
     rehearsed.calls().for_each(|(step, answer)| assert_eq!(pair.call(step), answer));
     report(bytes, &rehearse(bytes), Some(encode(&outcome.state)));
-    sheet(&Shown::over(&bytes[..outcome.end], bytes));
     outcome.answers.clone()
+}
+
+/// The same answers to an input that ends with clears, which are all taken; the
+/// entries before each of them and after it.
+pub fn cleared(cleared: &Cleared) -> Vec<[usize; 2]> {
+    let (answers, entries) = (steps(&(cleared.input)()), cleared.entries());
+    let last = &answers[answers.len() - entries.len()..];
+    assert!(last.iter().all(|answer| *answer == 0), "{}: a clear is refused", cleared.name);
+    entries
+}
+
+/// Each engine counts what the reference does; how many steps there are, and the count.
+pub fn counted(Counted { name, steps }: &Counted) -> [usize; 2] {
+    let steps = steps();
+    let expected = gain(&steps);
+    for engine in ENGINES {
+        assert_eq!((engine.gain)(&steps), expected, "{}: {name}", engine.name);
+    }
+    [steps.len() / STEP_LENGTH, expected]
 }
 
 /// The sheet that is measured: each engine writes it, and reads its 64 items.

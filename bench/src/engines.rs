@@ -10,6 +10,7 @@ const NONE: Engine = Engine {
     step: |_, _, _| 0,
     rehearse: |_, _, _| 0,
     shrink: |_, _| 0,
+    gain: |_| 0,
     write_sheet: |_, _, _, _, _| 0,
     check_sheet: |_| 0,
     sheet_item: |_, _, _, _| 0,

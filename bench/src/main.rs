@@ -6,9 +6,12 @@
 //!     bench count ENGINE CALL INPUT [OP]   one round, for a tool that counts
 //!
 //! With an op, `count` calls only its steps; CALL is `step`, or `form` for as
-//! many calls without a step. With the CALL `shrink` the input is cut down once.
+//! many calls without a step. With the CALL `shrink` the input is cut down once,
+//! with `gain` it is a step file, which is counted once.
 
 mod check;
+mod cleared;
+mod counted;
 mod engines;
 mod measure;
 mod ops;
@@ -16,6 +19,8 @@ mod rehearsals;
 mod shown;
 mod shrunk;
 
+use cleared::CLEARED;
+use counted::COUNTED;
 use inputs::answers::ROWS;
 use measure::{best_times, Bench};
 use rehearsals::{rehearsals, Rehearsal};
@@ -50,8 +55,11 @@ fn write_inputs(folder: &Path) {
     for Rehearsal { name, input, .. } in rehearsals() {
         fs::write(folder.join(name), input).expect("a folder to write to");
     }
-    for shrunk in &SHRUNK {
-        fs::write(folder.join(shrunk.name), (shrunk.input)()).expect("a folder to write to");
+    let shrunk = SHRUNK.iter().map(|shrunk| (shrunk.name, shrunk.input));
+    let cleared = CLEARED.iter().map(|cleared| (cleared.name, cleared.input));
+    let counted = COUNTED.iter().map(|counted| (counted.name, counted.steps));
+    for (name, input) in shrunk.chain(cleared).chain(counted) {
+        fs::write(folder.join(name), input()).expect("a folder to write to");
     }
 }
 
@@ -66,6 +74,7 @@ fn count(engine: &str, call: &str, input: &str, op: Option<u8>) {
     let calls = match op {
         Some(op) => ops::round(&engine, op, call == "form", &input),
         None if call == "shrink" => shrunk::round(&engine, &input),
+        None if call == "gain" => counted::round(&engine, &input),
         None => Bench::over(&input).round(&engine, call),
     };
     println!("{calls}");
@@ -84,6 +93,8 @@ fn print_times(cases: &Path) {
         }
     }
     print_shrunk();
+    print_cleared();
+    print_counted();
 }
 
 fn print_shrunk() {
@@ -97,6 +108,31 @@ fn print_shrunk() {
         let input = (shrunk.input)();
         let times = best_times(shrunk::ROUNDS, |engine| shrunk::round(engine, &input));
         print_row(shrunk.name, times.map(|nanoseconds| nanoseconds / 1e6));
+    }
+}
+
+/// Clears are counted in instructions alone.
+fn print_cleared() {
+    println!();
+    for cleared in &CLEARED {
+        let entries = check::cleared(cleared).into_iter();
+        let told: Vec<String> =
+            entries.map(|[before, after]| format!("{before} to {after}")).collect();
+        println!("{}: entries {}", cleared.name, told.join(", "));
+    }
+}
+
+fn print_counted() {
+    println!();
+    for counted in &COUNTED {
+        let [steps, gain] = check::counted(counted);
+        println!("{}: {steps} steps, gain {gain}", counted.name);
+    }
+    print_head("gain, microseconds");
+    for counted in &COUNTED {
+        let steps = (counted.steps)();
+        let times = best_times(counted::ROUNDS, |engine| counted::round(engine, &steps));
+        print_row(counted.name, times.map(|nanoseconds| nanoseconds / 1e3));
     }
 }
 
