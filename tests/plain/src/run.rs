@@ -41,7 +41,7 @@ impl<'a> Run<'a> {
     }
 
     /// Back to the fresh state.
-    pub fn clear(&mut self) {
-        self.state.clear();
+    pub fn make_fresh(&mut self) {
+        self.state.make_fresh();
     }
 }

@@ -67,7 +67,7 @@ impl<'a, 'b> Trials<'a, 'b> {
 
     /// The last answer, from the fresh state and without the steps that are dropped.
     fn answer(&mut self) -> u8 {
-        self.run.clear();
+        self.run.make_fresh();
         for (step, dropped) in self.earlier.iter().zip(&*self.dropped) {
             if !dropped {
                 self.run.step(step);

@@ -61,7 +61,7 @@ impl State {
     }
 
     /// Makes it the fresh state.
-    pub fn clear(&mut self) {
+    pub fn make_fresh(&mut self) {
         // It has no gaps, and zeros will do.
         unsafe { std::ptr::from_mut(self).write_bytes(0, 1) }
     }
