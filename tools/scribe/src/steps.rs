@@ -42,6 +42,7 @@ const OPS: &[(&str, &[Field])] = &[
     ("false-backing", &[Peer, Period, Board]),
     ("down", &[Peer]),
     ("up", &[Peer]),
+    ("clear", &[Period]),
 ];
 
 /// The five fields after the op by their names; an entry stands as an item.
@@ -145,7 +146,7 @@ pub fn write_step(bytes: &[u8]) -> String {
     }
 }
 
-/// The step by its name, if the bytes have its form: 13 bytes, op 1 to 18,
+/// The step by its name, if the bytes have its form: 13 bytes, op 1 to 19,
 /// and 0 in every field that the op does not use.
 fn named_step(bytes: &[u8]) -> Option<String> {
     if bytes.len() != STEP_LENGTH {

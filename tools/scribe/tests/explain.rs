@@ -1,5 +1,8 @@
 //! Explanations written by hand, from document 01.
 
+mod common;
+
+use common::check_on;
 use scribe::explain::{explain_bytes, explain_text, is_text, Which};
 use scribe::{bytes, text};
 
@@ -11,20 +14,6 @@ const TABLE: &str = "peers 4 threshold 3 honest 1 2 3 periods 2\n\
 fn check(steps: &[(&str, &str)]) {
     let told = "table: 4 peers, honest 1, 2, 3; threshold 3; 2 periods, 4 items";
     check_on((TABLE, told), steps);
-}
-
-/// The same on a table, with what is told of it. The steps stand behind it.
-fn check_on((table, told_table): (&str, &str), steps: &[(&str, &str)]) {
-    let lines: String = steps.iter().map(|(step, _)| format!("{step}\n")).collect();
-    let explanation = explain_text(&format!("{table}{lines}"), Which::All).unwrap();
-    let told: Vec<&str> = explanation.lines().collect();
-    assert_eq!(told[0], told_table);
-    let first = table.lines().count() + 1;
-    for (k, (step, expected)) in steps.iter().enumerate() {
-        assert_eq!(told[1 + 2 * k], format!("line {}, step {}: {step}", first + k, 1 + k));
-        assert_eq!(told[2 + 2 * k], format!("    {expected}"), "{step}");
-    }
-    assert_eq!(told.len(), 2 + 2 * steps.len());
 }
 
 #[test]
@@ -216,7 +205,7 @@ fn forms_names_roles_and_outages() {
         ("close 2", "8 down: peer 2 is down"),
         ("fetch 1 2 0", "8 down: peer 2 is down"),
         ("up 2", "0 done: peer 2 is up"),
-        ("raw 13 00 00 00 00 00 00 00 00 00 00 00 00", "5 form: op 19, but the ops are 1 to 18"),
+        ("raw 14 00 00 00 00 00 00 00 00 00 00 00 00", "5 form: op 20, but the ops are 1 to 19"),
         (
             "raw 07 01 02 00 03 00 00 00 00 00 00 00 05",
             "5 form: op 7 (close) needs 0 in the fields that it does not use: \

@@ -28,6 +28,7 @@ false-hash 4 0 board 0 2 5 63
 false-backing 4 0 board 1
 down 1
 up 1
+clear 1
 raw 0C 01 00 00 00 00 00 00 00 00 00 00 00
 raw 01 00
 ";
@@ -101,6 +102,7 @@ fn fields_stand_in_their_places() {
     assert_eq!(step("take 1 2 3 4"), [4, 1, 2, 3, 4, 0, 0, 0, 0, 0, 0, 0, 0]);
     assert_eq!(step("fetch 1 2 3"), [8, 1, 2, 3, 0, 0, 0, 0, 0, 0, 0, 0, 0]);
     assert_eq!(step("receipt 3 4"), [6, 0, 0, 3, 4, 0, 0, 0, 0, 0, 0, 0, 0]);
+    assert_eq!(step("clear 3"), [19, 0, 0, 3, 0, 0, 0, 0, 0, 0, 0, 0, 0]);
     assert_eq!(step("hear 1 entry 4"), [10, 1, 0, 0, 4, 0, 0, 0, 0, 0, 0, 0, 0]);
     let hash = [15, 1, 0, 3, 0, 128, 0, 0, 0, 0, 0, 1, 3];
     assert_eq!(step("false-hash 1 3 board 63 8 0 1"), hash);
@@ -153,7 +155,7 @@ fn random_input(random: &mut Random) -> Vec<u8> {
     }
     input.extend(items);
     for _ in 0..random.below(30) {
-        input.push(random.below(21) as u8);
+        input.push(random.below(22) as u8);
         input.extend((0..12).map(|_| match random.below(3) {
             0 => random.bits() as u8,
             _ => 0,

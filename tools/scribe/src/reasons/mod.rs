@@ -6,8 +6,10 @@
 //! - `items`: what is wrong with the texts of items
 //! - `input`: why a table or an input is refused
 //! - `refusals`: why a step is refused; `unknown` and `short`: with 10 and 12
-//! - `news`: what a step has changed
+//! - `news`: what a step has changed; `cleared`: what a clear has removed, and who has
+//!   yet to back the period
 
+mod cleared;
 pub mod input;
 pub(crate) mod items;
 mod news;
@@ -17,6 +19,7 @@ pub mod refusals;
 mod short;
 mod unknown;
 
+use reference::form::{read_step, Step};
 use reference::state::State;
 use reference::step::call;
 use reference::table::Table;
@@ -66,7 +69,10 @@ impl Telling<'_> {
             let reason = refusals::why(table, before, bytes, refusal);
             return Told { refusal: Some(refusal), reason };
         }
-        let reason = news::news(table, before, after);
+        let reason = match read_step(bytes) {
+            Ok(Step::Clear { period }) => cleared::removed(before, after, period),
+            _ => news::news(table, before, after),
+        };
         // The same step again, which takes less than a copy of the state.
         let again = call(table, before, bytes);
         assert_eq!(again, Ok(()));

@@ -1,4 +1,6 @@
-//! What a step has changed: the state before it beside the state after it.
+//! What a step has changed: the state before it beside the state after it. No step
+//! that is told here takes an entry away, so entries keep their numbers; `cleared`
+//! tells of those that do.
 
 use super::phrases::{comma_list, entry};
 use super::quorum::{of_threshold, told_of_threshold};

@@ -1,6 +1,7 @@
 //! Why a step is refused: the fact behind the number, looked up in the state.
 //! Each function gives none where it finds no such fact.
 
+use super::cleared::yet_to_back;
 use super::phrases::{count, entry, item, item_list};
 use super::short::short;
 use super::unknown::unknown;
@@ -65,7 +66,7 @@ fn doers(bytes: &[u8], step: Step) -> Vec<usize> {
     }
 }
 
-/// The peer whose step it is: none for a post, a receipt and a publish.
+/// The peer whose step it is: none for a post, a receipt, a publish and a clear.
 fn doer(bytes: &[u8]) -> Option<usize> {
     let (_, uses) = op(bytes[0])?;
     uses.contains(&Field::Peer).then(|| value(bytes, Field::Peer) as usize)
@@ -97,7 +98,8 @@ fn down(state: &State, bytes: &[u8], step: Step) -> Reason {
     Some(format!("peer {peer} is down"))
 }
 
-/// 9: no open period, one beyond it, one not closed, or none to back.
+/// 9: no open period, one beyond it, one not closed, none to back, or one that is not
+/// yet backed by all.
 fn period(table: &Table, state: &State, step: Step) -> Reason {
     match step {
         Step::Hand { peer, .. }
@@ -126,6 +128,7 @@ fn period(table: &Table, state: &State, step: Step) -> Reason {
             Some(format!("{reason}; entry {number} is the {}", entry(heard)))
         }
         Step::Back { peer } => none_to_back(table, state, peer),
+        Step::Clear { period } => yet_to_back(table, state, period),
         _ => None,
     }
 }
