@@ -126,6 +126,71 @@ line 83, step 49: share 2 0
 }
 
 #[test]
+fn the_clear_that_came_too_early() {
+    let told = explain_text(&case("clear-too-early"), Which::Refused).unwrap();
+    let expected = "\
+line 25, step 8: clear 0
+    9 period: period 0 has yet to be backed by peer 1 (its c is 0), peer 2 (its c is 0), \
+peer 3 (its c is 0)
+line 48, step 27: publish entry 3
+    12 short: the board of period 0, item 0, has 2 of 3 backings: from 1, 2
+line 51, step 30: clear 0
+    9 period: period 0 has yet to be backed by peer 3 (its c is 0)
+line 53, step 32: clear 0
+    9 period: period 0 has yet to be backed by peer 3 (its c is 0)
+line 61, step 38: clear 1
+    9 period: period 1 has yet to be backed by peer 1 (its c is 1), peer 2 (its c is 1), \
+peer 3 (its c is 1)
+line 62, step 39: clear 2
+    6 name: period 2: the table has periods 0 to 1
+line 64, step 41: hear 3 entry 0
+    10 unknown: entry 0 is no hash but the backing of peer 1, period 0, item 0
+43 steps: 36 done, 7 refused
+";
+    assert_eq!(told, expected);
+}
+
+/// What the case says of its steps without the clears: the bag stays full, and nobody
+/// can back period 1, also with the hashes heard by the numbers that they have then.
+#[test]
+fn the_bag_that_is_not_cleared() {
+    let text = case("cleared-bag");
+    let (before, after) = text.split_once("# Room again").unwrap();
+    let kept = |part: &str| -> String {
+        part.lines()
+            .filter(|line| !line.starts_with("clear"))
+            .map(|line| format!("{line}\n"))
+            .collect()
+    };
+    let mut heard = kept(after);
+    for (new, old) in [(4, 7), (5, 8), (6, 9)] {
+        for peer in [2, 3] {
+            let [from, to] = [new, old].map(|entry| format!("hear {peer} entry {entry}\n"));
+            assert!(heard.contains(&from));
+            heard = heard.replace(&from, &to);
+        }
+    }
+    for (steps, full) in [(kept(after), [true, false, false]), (heard, [true; 3])] {
+        let uncleared = kept(before) + "# " + &steps;
+        let told = explain_text(&uncleared, Which::All).unwrap();
+        let told: Vec<&str> = told.lines().collect();
+        for peer in [1, 2, 3] {
+            let last =
+                told.iter().rposition(|line| line.ends_with(&format!(": back {peer}"))).unwrap();
+            assert_eq!(
+                told[last + 1].starts_with("    13 full: "),
+                full[peer - 1],
+                "{}",
+                told[last]
+            );
+        }
+        assert!(!told.iter().any(|line| line.contains("board of period 1, no items: entry")));
+    }
+    let cleared = explain_text(&text, Which::All).unwrap();
+    assert!(cleared.contains("board of period 1, no items: entry 10\n"));
+}
+
+#[test]
 fn tables_that_are_refused() {
     for (name, expected) in [
         (
