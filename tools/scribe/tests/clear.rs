@@ -178,3 +178,53 @@ fn runs_of_one_signer() {
         1 entry is left, now entry 0\n";
     assert_eq!(told, expected);
 }
+
+/// The example of docs/STEPS.md: seven entries, of which five are left.
+#[test]
+fn the_example_of_the_documents() {
+    let mut lines = "peers 2 threshold 2 honest 1 2 periods 2\n".to_string();
+    for step in [
+        "close 1",
+        "close 2",
+        "hash 1 0",
+        "hash 2 0",
+        "hear 1 entry 0",
+        "hear 1 entry 1",
+        "hear 2 entry 0",
+        "hear 2 entry 1",
+        "back 1",
+        "close 1",
+        "close 2",
+        "hash 1 1",
+        "hear 2 entry 3",
+        "back 2",
+        "publish entry 2",
+        "hash 2 1",
+    ] {
+        lines += &format!("{step}\n");
+    }
+    let told = explain_text(&lines, Which::All).unwrap();
+    assert!(told.ends_with(
+        "line 17, step 16: hash 2 1\n    0 done: hash of peer 2, period 1, no items: entry 6\n\
+            16 steps: 16 done, 0 refused\n"
+    ));
+    let last = |step: &str| {
+        let told = explain_text(&format!("{lines}clear 0\n{step}\n"), Which::Last).unwrap();
+        told.lines().last().unwrap().trim().to_string()
+    };
+    let entry = |number: usize| last(&format!("hear 1 entry {number}"));
+    let no_hash = |number: usize, told: &str| {
+        assert_eq!(entry(number), format!("10 unknown: entry {number} is no hash but the {told}"));
+    };
+    no_hash(0, "backing of peer 1, period 0, no items");
+    assert_eq!(entry(1), heard(1, (1, 1), 1));
+    no_hash(2, "backing of peer 2, period 0, no items");
+    no_hash(3, "board of period 0, no items");
+    assert_eq!(entry(4), heard(1, (2, 1), 4));
+    assert_eq!(entry(6), "10 unknown: there is no entry 6: the bag has entries 0 to 4");
+    assert_eq!(last("hear 2 entry 1"), "0 done: nothing new");
+    assert_eq!(last("hear 2 entry 4"), heard(2, (2, 1), 4));
+    assert_eq!(last("clear 0"), "0 done: nothing new: the bag has no hash of period 0");
+    let waits = "peer 1 (its c is 1), peer 2 (its c is 1)";
+    assert_eq!(last("clear 1"), format!("9 period: period 1 has yet to be backed by {waits}"));
+}
