@@ -6,8 +6,9 @@ use inputs::answers::Answers;
 use inputs::kinds::{rehearsal, round};
 use inputs::random::run_seed;
 use inputs::rehearsed::Rehearsed;
+use reference::form::{read_step, Step};
 use reference::report::run;
-use reference::state::State;
+use reference::state::{Entry, State};
 use reference::step::call;
 use reference::table::Table;
 use reference::Refusal::{self, *};
@@ -91,4 +92,59 @@ fn news_are_told_of_every_change() {
         }
     }
     assert!(repeats > 500, "{repeats} repeats");
+}
+
+/// The entries that a clear is told to have removed, each with its signer, and how many
+/// are told to be left.
+fn told_removed(reason: &str) -> (Vec<(usize, usize)>, usize) {
+    let number = |word: &str| word.parse::<usize>().unwrap();
+    let (_, told) = reason.split_once(" are removed: ").unwrap();
+    let (removed, left) = told.split_once("; ").unwrap();
+    let run = |told: &str| match told.split(' ').collect::<Vec<&str>>()[..] {
+        ["entry", entry, "of", "peer", j] => (number(entry)..=number(entry), number(j)),
+        ["entries", first, "to", last, "of", "peer", j] => {
+            (number(first)..=number(last), number(j))
+        }
+        _ => panic!("{told}"),
+    };
+    let removed = removed.split(", ").map(run);
+    let entries = removed.flat_map(|(run, j)| run.map(move |entry| (entry, j))).collect();
+    let left = match left.split_once(' ').unwrap() {
+        ("the", "bag is empty now") => 0,
+        (count, _) => number(count),
+    };
+    (entries, left)
+}
+
+/// What a clear is told to have removed are the period's hashes, all of them, by the
+/// numbers that they had.
+#[test]
+fn a_clear_tells_what_it_removed() {
+    let (seed, mut clears) = (run_seed(), 0);
+    for number in 0..ROUNDS * round() {
+        let input = rehearsal(seed, number).1;
+        let rehearsed = Rehearsed::new(&input);
+        let Ok(outcome) = &rehearsed.outcome else { continue };
+        let mut telling = Telling::on(&outcome.table);
+        let mut state = State::fresh(&outcome.table);
+        for (bytes, answer) in rehearsed.calls() {
+            let before = state.bag.clone();
+            let _answer = call(&outcome.table, &mut state, bytes);
+            let told = telling.tell(bytes);
+            let Ok(Step::Clear { period }) = read_step(bytes) else { continue };
+            if answer != 0 || state.bag == before {
+                continue;
+            }
+            let hash = |(entry, kind): (usize, &Entry)| match kind {
+                Entry::Hash { signer, period: q, .. } if *q == period => Some((entry, *signer)),
+                _ => None,
+            };
+            let hashes: Vec<(usize, usize)> = before.iter().enumerate().filter_map(hash).collect();
+            let left = before.len() - hashes.len();
+            let place = format!("seed {seed}, number {number}");
+            assert_eq!(told_removed(&told.reason.unwrap()), (hashes, left), "{place}");
+            clears += 1;
+        }
+    }
+    assert!(clears > 80, "{clears} clears that removed something");
 }
