@@ -255,8 +255,8 @@ size_t board_shrink(const uint8_t *input, size_t input_length,
  * bytes behind the last whole step count for nothing.
  * The bag never gains more. So where the count is at most BOARD_ENTRIES_MOST no
  * step answers 13 if they are run from a fresh state.
- * Each step 16 is compared with all steps before it: with many of them the time
- * grows with the square of their number. */
+ * The time grows with the number of steps; with more than 8,192 of them, each
+ * further block of so many goes once through all steps before it. */
 size_t board_gain(const uint8_t *steps, size_t steps_length);
 
 /* The length of a buffer that has room for every sheet, in bytes:
