@@ -14,9 +14,12 @@ use reference::gain::gain;
 
 const FILES: usize = 3_000;
 
+/// How many steps of a file the proved engine goes through at once.
+const BLOCK: usize = 8_192;
+
 #[test]
 fn same_counts() {
-    let (seed, mut counts, mut tails, mut long) = (run_seed(), Vec::new(), 0, 0);
+    let (seed, mut counts, mut tails, mut long, mut longer) = (run_seed(), Vec::new(), 0, 0, 0);
     for number in 0..FILES {
         let (sort, file) = in_turn(&SORTS, seed, number);
         let due = gain(&file);
@@ -27,12 +30,15 @@ fn same_counts() {
         counts.push(due);
         tails += !file.len().is_multiple_of(STEP_LENGTH) as usize;
         long += (file.len() > 65_536) as usize;
+        longer += (file.len() > BLOCK * STEP_LENGTH) as usize;
     }
     let at_most = |most: usize| counts.iter().filter(|count| **count <= most).count();
     let (none, few) = (at_most(0), at_most(256));
     println!("{none} counts of 0, {few} of at most 256, the most {:?}", counts.iter().max());
     println!("{tails} files with a short tail, {long} longer than the program takes");
-    assert!(none > 100 && few - none > 500 && FILES - few > 100 && tails > 500 && long > 100);
+    println!("{longer} with more steps than the proved engine takes at once");
+    assert!(none > 100 && few - none > 500 && FILES - few > 100 && tails > 500);
+    assert!(long > 100 && longer > 100);
 }
 
 /// On lent states the bag gains no more than the count either.

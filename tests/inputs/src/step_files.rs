@@ -14,7 +14,7 @@ use reference::table::read_table;
 /// The ops that count.
 pub const COUNTED: [u8; 5] = [9, 11, 12, 15, 16];
 
-pub static SORTS: [Sort; 12] = [
+pub static SORTS: [Sort; 13] = [
     sort("no bytes", |_| Vec::new(), &[0]),
     sort("a short tail alone", |random| tail(random, 1), &[0]),
     sort("the steps of a rehearsal", rehearsed, &[0]),
@@ -27,6 +27,7 @@ pub static SORTS: [Sort; 12] = [
     sort("backs of many peer bytes", many_peers, &[0]),
     sort("65,536 bytes", |random| of_length(random, INPUT_SIZE), &[0]),
     sort("more than 65,536 bytes", too_long, &[15]),
+    sort("false backings that come again far away", far_apart, &[15]),
 ];
 
 /// A step of the op, all other bytes anything.
@@ -160,4 +161,19 @@ fn of_length(random: &mut Random, length: usize) -> Vec<u8> {
 fn too_long(random: &mut Random) -> Vec<u8> {
     let length = [INPUT_SIZE + 1, random.between(INPUT_SIZE + 1, 2 * INPUT_SIZE)][random.below(2)];
     of_length(random, length)
+}
+
+/// Thousands of steps 16, all of them twice, or sometimes four times, and others between
+/// them: the proved engine takes no more than 8,192 steps at once.
+fn far_apart(random: &mut Random) -> Vec<u8> {
+    let count = random.between(4_200, 4_400);
+    let mut some: Vec<Vec<u8>> = (0..count).map(|_| any_of(random, 16)).collect();
+    let mut file = Vec::new();
+    let times = if random.once_in(8) { 4 } else { 2 };
+    for _ in 0..times {
+        random.shuffle(&mut some);
+        file.extend(some.concat());
+        file.extend(small(random));
+    }
+    [file, tail(random, 0)].concat()
 }
