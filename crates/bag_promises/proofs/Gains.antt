@@ -21,9 +21,10 @@ use Rattle.view.specs.View.{stateOn}
 use Rattle.engine.specs.Engine.{rulesTable, freshState, stepAnswer}
 use Rattle.engine.proofs.Start.{fresh-state}
 use Rattle.guarantee.specs.Demand3.{byBytes}
-use Rattle.bag_promises.specs.Clears.{StateOf}
+use Rattle.engine.proofs.States.{ready-state}
+use Rattle.engine.specs.States.{StateOf}
 use Rattle.bag_promises.specs.Gains.{GainsOnBytes}
-use Rattle.bag_promises.proofs.Clears.{follows, ready}
+use Rattle.bag_promises.proofs.Clears.{follows}
 
 module _ (table : List ℕ) (fit : refusal table ≡ 0) where
   sized : Sized (rulesTable table)
@@ -38,8 +39,8 @@ module _ (table : List ℕ) (fit : refusal table ≡ 0) where
   full s O step e =
       omega (
         arith,
-        full-call (stateOn s) (read step) (sym (follows table fit .answers s (ready table fit s O) step) ∙ e),
-        follows table fit .valid s (ready table fit s O) .bag .size,
+        full-call (stateOn s) (read step) (sym (follows table fit .answers s (ready-state table fit s O) step) ∙ e),
+        follows table fit .valid s (ready-state table fit s O) .bag .size,
       )
 
   pub gains-on-bytes : GainsOnBytes table
@@ -49,9 +50,9 @@ module _ (table : List ℕ) (fit : refusal table ≡ 0) where
       let R = Ready (headOf table) in
       let F = follows table fit in
       record {
-        gains = λ s O. growth.gains T sized E R F s (ready table fit s O);
-        lengthens = λ s O. growth.lengthens T sized E R F s (ready table fit s O);
-        room = λ s O. growth.has-room T sized E R F s (ready table fit s O);
+        gains = λ s O. growth.gains T sized E R F s (ready-state table fit s O);
+        lengthens = λ s O. growth.lengthens T sized E R F s (ready-state table fit s O);
+        room = λ s O. growth.has-room T sized E R F s (ready-state table fit s O);
         fresh-room = λ calls l. growth.has-room T sized E R F freshState (F .starts-ready) calls
             (omega (arith, l, ap (λ (z : State). length (z .bag)) fresh-state));
         full = full;

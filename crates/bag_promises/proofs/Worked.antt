@@ -28,7 +28,7 @@ use Rattle.gains.specs.Gain.{isOp, countOf, isAmong, differentOf, adds, backOf,
 use Rattle.growth.specs.Growth.{neverFull}
 use Rattle.cleared_runs.specs.Cleared.{clears, uncleared, renumber, translated, translatedFrom}
 use Rattle.view.specs.Ready.{Ready}
-use Rattle.valid.proofs.Ready.{ok-of-ready}
+use Rattle.engine.proofs.States.{state-ready}
 use Rattle.engine.specs.Engine.{rulesTable, freshState}
 use Rattle.edges.specs.Tables as tables
 use Rattle.edges.specs.Cases.{calls, caseR}
@@ -102,7 +102,7 @@ bag-worked =
     let R = F .starts-ready in
     record {
       taken = input .case-r-taken;
-      state = record { bytes = R .canon .bytes; ok = ok-of-ready (headOf tables.caseR) freshState R };
+      state = state-ready tables.caseR freshState R;
       never-full = ap neverFull without-clears ∙ none-full;
       without-clears = without-clears;
       with-clears = with-clears;

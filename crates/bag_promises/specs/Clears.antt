@@ -4,22 +4,15 @@ use Prim.Native.Nat.{ℕ}
 use mathlib.Core.Bool.{true, false}
 use mathlib.Core.List.{List}
 use mathlib.Core.Path.{_≡_}
-use Rattle.header.specs.Header.{headOf}
-use Rattle.bits.specs.Row.{Bytes}
 use Rattle.rules.specs.Run.{storeFrom, answersFrom}
 use Rattle.growth.specs.Growth.{neverFull}
 use Rattle.cleared_runs.specs.Cleared.{uncleared, clearedFrom, periodsCleared, withoutClears, withClears, AsBefore}
 use Rattle.cleared_runs.specs.Own.{unclearedBack, AsOwn}
 use Rattle.cleared_runs.specs.Gone.{goneAfter, Exactly}
 use Rattle.state.specs.Contents.{bagOn}
-use Rattle.valid.specs.StateOk.{stateOk}
 use Rattle.engine.specs.Engine.{rulesTable}
+use Rattle.engine.specs.States.{StateOf}
 use Rattle.guarantee.specs.Demand3.{byBytes}
-
--- the bytes of a state that row 14 passes
-pub record StateOf (table s : List ℕ) : Type 0 where
-  pub bytes : Bytes s
-  pub ok : stateOk (headOf table) s ≡ true
 
 pub record ClearsOnBytes (table : List ℕ) : Type 0 where
   -- until the run without clears would have answered full, in its entry numbers

@@ -15,7 +15,7 @@ use Rattle.reading.specs.Steps.{ShowsAnswer}
 use Rattle.rehearsal.specs.Input.{tableEnd}
 use Rattle.rehearsal.specs.Rehearsal.{reportOf}
 use Rattle.guarantee.specs.Demand3.{byBytes}
-use Rattle.bag_promises.specs.Clears.{StateOf}
+use Rattle.engine.specs.States.{StateOf}
 
 -- for every table that is taken, and every state that row 14 passes
 pub record GainsOnBytes (table : List ℕ) : Type 0 where

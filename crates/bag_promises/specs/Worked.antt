@@ -15,7 +15,7 @@ use Rattle.edges.specs.Cases.{bytes}
 use Rattle.rehearsal.specs.Input.{inputRefusal}
 use Rattle.guarantee.specs.Demand3.{byBytes}
 use Rattle.guarantee.specs.TotalsWorked.{inputR}
-use Rattle.bag_promises.specs.Clears.{StateOf}
+use Rattle.engine.specs.States.{StateOf}
 use Rattle.bag_promises.specs.Gains.{stepsIn}
 
 -- in the entry numbers of the run without clears: 0 the hash, 1 the backing

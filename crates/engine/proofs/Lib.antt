@@ -4,3 +4,4 @@ pub mod Start
 pub mod Steps
 pub mod Zeros
 pub mod Calls
+pub mod States
