@@ -1,17 +1,18 @@
 -- While a period is backed: each peer has yet to back it, or has backed board U; and nobody has backed another board
--- of it.
+-- of it, but for the backings that were there before.
 use Prim.Native.Nat.{ℕ, _+_, _<_}
 use native.Mathlib.Omega.{arith}
-use mathlib.Core.Bool.{Bool, true}
+use mathlib.Core.Bool.{Bool, true, false}
 use mathlib.Core.Path.{_≡_, refl, sym, subst}
 use mathlib.Core.Logic.{_⊎_, inl, inr, ⊎-elim}
 use Rattle.base.specs.Sets.{add3, setAt}
 use Rattle.base.proofs.Truth.{split}
 use Rattle.base.proofs.Sets.{grow3, old3, new3, set-elim}
+use Rattle.rules.specs.declared.Entry.the-variants.{Backing}
 use Rattle.rules.specs.declared.Step.{Step}
 use Rattle.rules.specs.declared.Step.the-variants.{SendHash, Back, Publish, FalseHash, FalseBacking, ClearHashes}
 use Rattle.rules.specs.Table.{Table}
-use Rattle.rules.specs.Bag.{entryAt, periodOf, boardOf}
+use Rattle.rules.specs.Bag.{isIn, entryAt, periodOf, boardOf}
 use Rattle.rules.specs.State.{State}
 use Rattle.rules.specs.Rules.{rule, boardBy}
 use Rattle.rules.specs.Valid.{Peer}
@@ -21,10 +22,13 @@ use Rattle.rules.proofs.Each.{each}
 use Rattle.rules.proofs.Valid.{is-peer}
 use Rattle.liveness.specs.Close.{AllHonest}
 
-module _ (T : Table) (p U : ℕ) where
+module _ (T : Table) (p U : ℕ) (before : State) where
+  abbrev was : ℕ → ℕ → Bool
+  was k B = isIn (Backing k p B) (before .bag)
+
   pub record Backed (backs : ℕ → ℕ → ℕ → Bool) (toBack : ℕ → ℕ) : Type 0 where
     pub due : (k : ℕ) → Peer T k → (toBack k ≡ p) ⊎ ((p < toBack k) × (backs k p U ≡ true))
-    pub only : (k B : ℕ) → backs k p B ≡ true → B ≡ U
+    pub only : (k B : ℕ) → backs k p B ≡ true → was k B ≡ false → B ≡ U
 
   abbrev pub BackedIn : State → Type 0
   BackedIn s = Backed (backs (s .bag)) (s .toBack)
@@ -44,7 +48,7 @@ module _ (T : Table) (p U : ℕ) where
       due = set-elim (λ k v. Peer T k → (v ≡ p) ⊎ ((p < v) × (more k p U ≡ true))) j (s .toBack j + 1) (s .toBack)
           (λ h. inr (⊎-elim (λ u. (omega arith, new u)) (λ u. (omega (arith, u .0), old j p U (u .1))) (I .due j h)))
           (λ k h. ⊎-elim inl (λ u. inr (u .0, old k p U (u .1))) (I .due k h));
-      only = λ k C b. grow3 {P = λ k q C. q ≡ p → C ≡ U} j (s .toBack j) B (backs (s .bag)) its before k p C b refl;
+      only = λ k C b n. grow3 {P = λ k q C. q ≡ p → was k C ≡ false → C ≡ U} j (s .toBack j) B (backs (s .bag)) (λ u n. its u) earlier k p C b refl n;
     }
       where
         more : ℕ → ℕ → ℕ → Bool
@@ -57,8 +61,8 @@ module _ (T : Table) (p U : ℕ) where
         new u = subst (λ (C : ℕ). more j p C ≡ true) (its u)
             (subst (λ (q : ℕ). more j q B ≡ true) u (new3 j (s .toBack j) B (backs (s .bag))))
 
-        before : (k q C : ℕ) → backs (s .bag) k q C ≡ true → q ≡ p → C ≡ U
-        before k q C b e = I .only k C (subst (λ (a : ℕ). backs (s .bag) k a C ≡ true) e b)
+        earlier : (k q C : ℕ) → backs (s .bag) k q C ≡ true → q ≡ p → was k C ≡ false → C ≡ U
+        earlier k q C b e = I .only k C (subst (λ (a : ℕ). backs (s .bag) k a C ≡ true) e b)
 
     backed-back : (j : ℕ) → StaysBacked (Back j)
     unfolding rule

@@ -29,16 +29,16 @@ use Rattle.rules.proofs.Valid.{always-valid}
 use Rattle.form.specs.Written.{written}
 use Rattle.form.proofs.Written.{read-written, written-bytes}
 use Rattle.liveness.specs.Union.{unionBoard}
-use Rattle.liveness.specs.Places.{behaviour, callAt}
+use Rattle.liveness.specs.Places.{behaviour, behaviourFrom, callAt}
 use Rattle.liveness.specs.Close.{AllHonest, Closed}
 use Rattle.liveness.specs.Through.{TheBoard, Publishable}
-use Rattle.liveness.specs.Schedule.{otherThan, fetchAndHash, hashNumber, schedule, Room, InBytes, CanClose, MadeOfBytes}
-use Rattle.liveness.proofs.Places.{ruled, as-rules}
+use Rattle.liveness.specs.Schedule.{otherThan, fetchAndHash, hashNumber, schedule, Room, InBytes, CanClose, MadeOfBytes, LentCanClose}
+use Rattle.liveness.proofs.Places.{obeys, obeys-from, ruled, as-rules}
 use Rattle.liveness.proofs.Answers.{call-room}
 use Rattle.liveness.proofs.Settled.{all-enough}
 use Rattle.liveness.proofs.Through.{rules-through}
 use Rattle.liveness.proofs.Parts.{fetch, send, hear, back, Scheduled, scheduled, in-parts}
-use Rattle.liveness.proofs.Schedule.{in-sent, at-most, closing}
+use Rattle.liveness.proofs.Schedule.{in-sent, at-most, closing, untaken}
 
 -- there is a peer
 some-peer : (T : Table) → AllHonest T → Peer T 1
@@ -97,7 +97,7 @@ module _ (T : Table) (A : AllHonest T) (earlier : List (List ℕ)) (p : ℕ) (C 
 
     entry-lt : (k : ℕ) → Peer T k → entry k < 256
     entry-lt k h =
-        let its = placed (sent .bag) (Hash k p (boardBy T sent k p)) (in-sent T A earlier p C room k h) in
+        let its = placed (sent .bag) (Hash k p (boardBy T sent k p)) (in-sent (obeys T) A earlier p C room k h) in
         omega (arith, its .0, always-valid T (earlier ++ fetchAndHash n p) .bag .size)
 
     abbrev P : Scheduled n p entry later
@@ -125,7 +125,7 @@ module _ (T : Table) (A : AllHonest T) (earlier : List (List ℕ)) (p : ℕ) (C 
 
     ready : Publishable T (ruled T) closed p U
     ready = subst (λ (calls : List (List ℕ)). Publishable T (ruled T) calls p U) (append-nil closed)
-        (rules-through T A .through-in-turn earlier later p (closing T A earlier p C room) .publishable [])
+        (rules-through T A .through-in-turn earlier later p (closing (obeys T) A earlier p C room) .publishable [])
 
     abbrev its : (e : ℕ) × (e < capacity) × (entryAt (run T closed .engine .bag) e ≡ Backing 1 p U)
     its = ready .backed 1 (some-peer T A)
@@ -134,7 +134,7 @@ module _ (T : Table) (A : AllHonest T) (earlier : List (List ℕ)) (p : ℕ) (C 
     publish = written (Publish (its .0))
 
     not-full : reply T (run T closed .engine) (read publish) ≡ 13 → ⊥
-    not-full = call-room T (run T closed .engine) (read publish) (omega (arith, at-most T A earlier p C room))
+    not-full = call-room T (run T closed .engine) (read publish) (omega (arith, at-most (obeys T) A earlier p C room))
 
     published : TheBoard (run T (closed ++ (publish ∷ [])) .engine) p U
     published = ready .publishes publish (its .0) 1 U (read-written (Publish (its .0)) (omega arith)) (its .2) not-full .1
@@ -144,7 +144,7 @@ module _ (T : Table) (A : AllHonest T) (earlier : List (List ℕ)) (p : ℕ) (C 
 
 rules-can-close : (T : Table) → AllHonest T → CanClose T (ruled T)
 rules-can-close T A = record {
-  closes = closing T A;
+  closes = closing (obeys T) A;
   board-comes = λ earlier p C one. board-there T A earlier p C (omega arith) one;
 }
 
@@ -154,3 +154,9 @@ module _ {T : Table} {X : Type 0} {E : Engine X} {Ready : X → Type 0} (F : Fol
 
   pub made-of-bytes : T .n < 256 → T .periods ≤ 256 → MadeOfBytes T (behaviour E)
   made-of-bytes few short = subst (MadeOfBytes T) (sym (as-rules F)) (λ earlier p C room. in-bytes T A earlier p C room few short)
+
+-- from any store that was lent
+pub lent-can-close : {T : Table} {X : Type 0} {E : Engine X} {Ready : X → Type 0} → Follows T E Ready → AllHonest T → (x : X) → Ready x
+    → LentCanClose T (behaviourFrom E x)
+lent-can-close F A x R earlier p C room =
+    (closing (obeys-from F x R) A earlier p C room, untaken (obeys-from F x R) A earlier p C room)

@@ -1,16 +1,14 @@
--- What stays, whatever calls come: databases, counters and backings; and what an honest peer heard of a period, until
--- it has backed it. Hashes and entry numbers are not spoken of.
+-- What a close needs of what stays, whatever steps come, from any state: databases, counters and backings; and what an
+-- honest peer heard of a period, until it has backed it. Hashes and entry numbers are not spoken of.
 use Prim.Native.Nat.{ℕ, _≤_}
 use mathlib.Core.Bool.{true}
-use mathlib.Core.List.{List, _++_}
 use mathlib.Core.Path.{_≡_, refl}
 use Rattle.rules.specs.declared.Entry.the-variants.{Backing}
 use Rattle.rules.specs.Table.{Table}
 use Rattle.rules.specs.Bag.{isIn}
 use Rattle.rules.specs.State.{State}
-use Rattle.rules.specs.Run.{run}
 use Rattle.rules.specs.Valid.{Peer}
-use Rattle.rules.proofs.Grow.{grows-run}
+use Rattle.rules.proofs.Grow.{Grows}
 
 pub record Keeps (T : Table) (s t : State) : Type 0 where
   pub db : (j p x k : ℕ) → s .db j p x k ≡ true → t .db j p x k ≡ true
@@ -20,11 +18,11 @@ pub record Keeps (T : Table) (s t : State) : Type 0 where
   pub heard : (j k p B : ℕ) → Peer T j → T .honest j ≡ true → t .toBack j ≤ p → s .heard j k p B ≡ true
       → t .heard j k p B ≡ true
 
-pub keeps-run : (T : Table) (earlier later : List (List ℕ)) → Keeps T (run T earlier .engine) (run T (earlier ++ later) .engine)
-keeps-run T earlier later = let g = grows-run T earlier later in record {
+pub of-growth : {T : Table} {s t : State} → Grows T s t → Keeps T s t
+of-growth g = record {
   db = g .db;
   current = g .current;
   toBack = g .toBack;
   backings = λ k p B. g .bag (Backing k p B) refl;
-  heard = λ j k p B peer honest late. g .heard j k p B late;
+  heard = λ j k p B peer honest. g .heard j k p B honest peer;
 }

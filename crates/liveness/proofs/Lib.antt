@@ -5,6 +5,7 @@ pub mod Union
 pub mod Fetches
 pub mod Backed
 pub mod Settled
+pub mod Lent
 pub mod Through
 pub mod Entering
 pub mod Parts

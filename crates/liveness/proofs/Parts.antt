@@ -22,9 +22,9 @@ use Rattle.rules.specs.State.{State}
 use Rattle.rules.specs.Rules.{next}
 use Rattle.form.specs.Written.{written}
 use Rattle.form.proofs.Written.{read-written}
-use Rattle.liveness.specs.Places.{callAt, stepAt, heldAt}
+use Rattle.liveness.specs.Places.{Behaviour, callAt, stepAt, heldAt}
 use Rattle.liveness.specs.Schedule.{forPeers, forPairs, otherThan, forOthers, fetchAndHash, hearAndBack}
-use Rattle.liveness.proofs.Places.{ruled, now-step}
+use Rattle.liveness.proofs.Places.{Obeys, now-step}
 
 -- the calls from place `from` on are those of the steps f 0, f 1, .., which name no board
 pub record Part (calls : List (List ℕ)) (from size : ℕ) (f : ℕ → Step) : Type 0 where
@@ -36,9 +36,10 @@ pub said : {calls : List (List ℕ)} {from size : ℕ} {f : ℕ → Step} → Pa
 said {calls} {from} {size} {f} P a l = ap read (P .each a l) ∙ read-written (f a) (omega (arith, P .plain a))
 
 -- along a part: what holds where it begins, and is passed on by each of its steps, holds at each of its places
-module _ (T : Table) (earlier later : List (List ℕ)) {from size : ℕ} {f : ℕ → Step} (F : Part later from size f) where
+module _ {T : Table} {E : Behaviour} (O : Obeys T E) (earlier later : List (List ℕ)) {from size : ℕ} {f : ℕ → Step}
+    (F : Part later from size f) where
   abbrev now : ℕ → State
-  now i = heldAt (ruled T) earlier later i
+  now i = heldAt E earlier later i
 
   pub walk : (P : ℕ → State → Type 0) → P 0 (now from)
       → ((a : ℕ) → a < size → P a (now (from + a)) → P (suc a) (next T (now (from + a)) (f a)))
@@ -46,7 +47,7 @@ module _ (T : Table) (earlier later : List (List ℕ)) {from size : ℕ} {f : �
   walk P z g zero l = subst (λ (i : ℕ). P 0 (now i)) {x = from} {y = from + 0} (omega arith) z
   walk P z g (suc a) l =
       subst (λ (i : ℕ). P (suc a) (now i)) {x = suc (from + a)} {y = from + suc a} (omega arith)
-      (subst (P (suc a)) (sym (now-step T earlier later (from + a) (f a) (said F a l))) (g a l (walk P z g a (omega arith))))
+      (subst (P (suc a)) (sym (now-step O earlier later (from + a) (f a) (said F a l))) (g a l (walk P z g a (omega arith))))
 
 part-tab : (n : ℕ) (f : ℕ → Step) → ((a : ℕ) → fields (f a) .board ≡ 0) → Part (tab n (λ i. written (f i))) 0 n f
 part-tab n f plain = record { each = λ a l. from-0 a ∙ getD-tab n (λ i. written (f i)) a [] l; plain = plain }

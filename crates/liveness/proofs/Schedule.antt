@@ -10,7 +10,7 @@ use lib.Seq.{take-append-seam}
 use Rattle.rules.specs.declared.Entry.{Entry}
 use Rattle.rules.specs.declared.Entry.the-variants.{Hash}
 use Rattle.rules.specs.declared.Step.{Step}
-use Rattle.rules.specs.declared.Step.the-variants.{Fetch, SendHash, Hear, Back, Down}
+use Rattle.rules.specs.declared.Step.the-variants.{Take, Fetch, SendHash, Hear, Back, Down}
 use Rattle.rules.specs.declared.Call.{Call}
 use Rattle.rules.specs.declared.Call.the-variants.{Formed, Malformed}
 use Rattle.rules.specs.Table.{Table}
@@ -18,24 +18,23 @@ use Rattle.rules.specs.Bag.{isIn, entryAt, enter, capacity}
 use Rattle.rules.specs.State.{State}
 use Rattle.rules.specs.Fields.{fields}
 use Rattle.rules.specs.Rules.{answer, next, boardBy}
-use Rattle.rules.specs.Run.{run}
 use Rattle.rules.specs.Valid.{Peer}
 use Rattle.rules.proofs.Bag.{placed, entered, stays-in}
-use Rattle.rules.proofs.Valid.{always-valid}
 use Rattle.edges.specs.Exact.{own-hash}
 use Rattle.liveness.specs.Union.{unionBoard}
-use Rattle.liveness.specs.Places.{stepAt, heldAt, answerAt}
+use Rattle.liveness.specs.Places.{Behaviour, stepAt, heldAt, answerAt}
 use Rattle.liveness.specs.Close.{AllHonest, Closed, Exchange}
 use Rattle.liveness.specs.InTurn.{InTurn, CloseInTurn, everyone}
+use Rattle.liveness.specs.Lent.{NoTakes}
 use Rattle.liveness.specs.Schedule.{fetchAndHash, hearAndBack, hashNumber, schedule, Room}
-use Rattle.liveness.proofs.Places.{ruled, in-list, its-answer, at-start, at-end}
+use Rattle.liveness.proofs.Places.{Obeys, in-list, its-answer, at-start, at-end}
 use Rattle.liveness.proofs.Answers as answers
 use Rattle.liveness.proofs.Entering.{one-entry, fetch-bag, hash-bag, hear-bag, back-bag}
 use Rattle.liveness.proofs.Fetches.{Steady, steady}
 use Rattle.liveness.proofs.Parts.{said, walk, cell-lt, cell-row, cell-col, among, among-other, fetch, send, hear, back, Scheduled, scheduled, in-parts}
 
-module _ (T : Table) (A : AllHonest T) (earlier : List (List ℕ)) (p : ℕ) (C : Closed T (run T earlier .engine) p)
-    (room : Room T (run T earlier .engine)) where
+module _ {T : Table} {E : Behaviour} (O : Obeys T E) (A : AllHonest T) (earlier : List (List ℕ)) (p : ℕ)
+    (C : Closed T (E .held earlier) p) (room : Room T (E .held earlier)) where
   abbrev n : ℕ
   n = T .n
 
@@ -46,23 +45,23 @@ module _ (T : Table) (A : AllHonest T) (earlier : List (List ℕ)) (p : ℕ) (C 
   N = T .n * T .n
 
   abbrev begin : State
-  begin = run T earlier .engine
+  begin = E .held earlier
 
   abbrev U : ℕ
   U = unionBoard T begin p
 
   -- what is held when all hashes are sent
   abbrev sent : State
-  sent = run T (earlier ++ fetchAndHash n p) .engine
+  sent = E .held (earlier ++ fetchAndHash n p)
 
   abbrev entry : ℕ → ℕ
   entry = hashNumber T sent p
 
   abbrev later : List (List ℕ)
-  later = schedule T (ruled T) earlier p
+  later = schedule T E earlier p
 
   abbrev now : ℕ → State
-  now i = heldAt (ruled T) earlier later i
+  now i = heldAt E earlier later i
 
   abbrev P : Scheduled n p entry later
   P = scheduled n p entry
@@ -115,7 +114,7 @@ module _ (T : Table) (A : AllHonest T) (earlier : List (List ℕ)) (p : ℕ) (C 
   now-sent =
       let first-two : take (M + n) later ≡ fetchAndHash n p =
       rw (← P .first-two) (take-append-seam (fetchAndHash n p) (hearAndBack n entry)) in
-      ap (λ (l : List (List ℕ)). run T (earlier ++ l) .engine) first-two
+      ap (λ (l : List (List ℕ)). E .held (earlier ++ l)) first-two
 
   -- no call takes a peer down
 
@@ -134,8 +133,17 @@ module _ (T : Table) (A : AllHonest T) (earlier : List (List ℕ)) (p : ℕ) (C 
       (λ a l e. omega (arith, one-op (M + n + N + a) (back n p entry a) (Down j) (said (P .backs) a l) e))
       i (omega (arith, P .long, in-list later i (Down j) e)) e
 
-  abbrev S : Steady T earlier later p fetchAt
-  S = steady T A earlier later p C none-down fetchAt fetches
+  -- nor is one a take
+  none-taken : (i j k x : ℕ) → stepAt later i ≡ Formed (Take j k p x) → ⊥
+  none-taken i j k x e = in-parts n p entry (λ i. stepAt later i ≡ Formed (Take j k p x) → ⊥)
+      (λ a l e. omega (arith, one-op (0 + a) (fetch n p entry a) (Take j k p x) (said (P .fetches) a l) e))
+      (λ a l e. omega (arith, one-op (M + a) (send n p entry a) (Take j k p x) (said (P .hashes) a l) e))
+      (λ a l e. omega (arith, one-op (M + n + a) (hear n p entry a) (Take j k p x) (said (P .hears) a l) e))
+      (λ a l e. omega (arith, one-op (M + n + N + a) (back n p entry a) (Take j k p x) (said (P .backs) a l) e))
+      i (omega (arith, P .long, in-list later i (Take j k p x) e)) e
+
+  abbrev S : Steady T E earlier later p fetchAt
+  S = steady O A earlier later p C none-down (λ i j k x e a. absurd (none-taken i j k x e)) fetchAt fetches
 
   -- whoever's board it is, once all fetches are done it is U
   its-board : (i j : ℕ) → Peer T j → M ≤ i → boardBy T (now i) j p ≡ U
@@ -144,7 +152,7 @@ module _ (T : Table) (A : AllHonest T) (earlier : List (List ℕ)) (p : ℕ) (C 
   -- the bag, part by part
 
   fetched : (a : ℕ) → a ≤ M → now (0 + a) .bag ≡ begin .bag
-  fetched = walk T earlier later (P .fetches) (λ a v. v .bag ≡ begin .bag) (ap (λ (v : State). v .bag) (at-start T earlier later))
+  fetched = walk O earlier later (P .fetches) (λ a v. v .bag ≡ begin .bag) (ap (λ (v : State). v .bag) (at-start O earlier later))
       (λ a l q. fetch-bag T (now (0 + a)) _ _ p ∙ q)
 
   after-fetches : now M .bag ≡ begin .bag
@@ -169,7 +177,7 @@ module _ (T : Table) (A : AllHonest T) (earlier : List (List ℕ)) (p : ℕ) (C 
   hash-sent a l I =
       let v = now (M + a) in
       let peer : Peer T (a + 1) = (omega arith, omega arith) in
-      let of-table : p < T .periods = omega (arith, C .closed (a + 1) peer, always-valid T earlier .counters .opens (a + 1)) in
+      let of-table : p < T .periods = omega (arith, C .closed (a + 1) peer, O .valid earlier .counters .opens (a + 1)) in
       answers.entered T v (SendHash (a + 1) p) _
       (own-hash (a + 1) p (S .able (M + a) (a + 1) peer) of-table (S .closed (M + a) (a + 1) peer))
       (answers.step-room T v (SendHash (a + 1) p) (omega (arith, I .size)))
@@ -184,21 +192,21 @@ module _ (T : Table) (A : AllHonest T) (earlier : List (List ℕ)) (p : ℕ) (C 
       subst (Hashed (suc a)) (sym bag) (hash-more a (v .bag) I)
 
   hashed : (a : ℕ) → a ≤ n → Hashed a (now (M + a) .bag)
-  hashed = walk T earlier later (P .hashes) (λ a v. Hashed a (v .bag))
+  hashed = walk O earlier later (P .hashes) (λ a v. Hashed a (v .bag))
       (record { size = omega (arith, ap length after-fetches); there = λ b m. absurd (omega arith) }) one-hash
 
   heard : (a : ℕ) → a ≤ N → now (M + n + a) .bag ≡ now (M + n) .bag
-  heard = walk T earlier later (P .hears) (λ a v. v .bag ≡ now (M + n) .bag) refl (λ a l q. hear-bag T (now (M + n + a)) _ _ ∙ q)
+  heard = walk O earlier later (P .hears) (λ a v. v .bag ≡ now (M + n) .bag) refl (λ a l q. hear-bag T (now (M + n + a)) _ _ ∙ q)
 
   backed : (a : ℕ) → a ≤ n → length (now (M + n + N + a) .bag) ≤ length (begin .bag) + n + a
-  backed = walk T earlier later (P .backs) (λ a v. length (v .bag) ≤ length (begin .bag) + n + a)
+  backed = walk O earlier later (P .backs) (λ a v. length (v .bag) ≤ length (begin .bag) + n + a)
       (omega (arith, ap length (heard N (omega arith)), hashed n (omega arith) .size))
       (λ a l q. omega (arith, q, back-bag T (now (M + n + N + a)) (a + 1)))
 
   -- the schedule adds at most a hash and a backing of each peer
-  pub at-most : length (run T (earlier ++ later) .engine .bag) ≤ length (begin .bag) + 2 * n
+  pub at-most : length (E .held (earlier ++ later) .bag) ≤ length (begin .bag) + 2 * n
   at-most =
-      let ended = at-end T earlier later (M + n + N + n) (omega (arith, P .long)) in
+      let ended = at-end O earlier later (M + n + N + n) (omega (arith, P .long)) in
       subst (λ (v : State). length (v .bag) ≤ length (begin .bag) + 2 * n) ended (omega (arith, backed n (omega arith)))
 
   -- the close
@@ -221,7 +229,7 @@ module _ (T : Table) (A : AllHonest T) (earlier : List (List ℕ)) (p : ℕ) (C 
       ap (λ (l : List Entry). entryAt l (entry k)) bag ∙ placed (sent .bag) _ (in-sent k hk) .1
       ∙ ap (Hash k p) (sent-board k hk ∙ sym (its-board (hashAt k) k hk (omega arith)))
 
-  exchange : Exchange T (ruled T) earlier later p everyone
+  exchange : Exchange T E earlier later p everyone
   exchange = record {
     fetchAt = fetchAt;
     fetches = fetches;
@@ -245,7 +253,7 @@ module _ (T : Table) (A : AllHonest T) (earlier : List (List ℕ)) (p : ℕ) (C 
           let it = ap (stepAt later) {x = i} {y = 0 + i} (omega arith) ∙ said (P .fetches) i (omega arith) in
           absurd (omega (arith, one-op i (fetch n p entry i) (Back l) it e))
 
-  in-turn : InTurn T (ruled T) earlier later p exchange
+  in-turn : InTurn T E earlier later p exchange
   unfolding exchange
   in-turn = record {
     fetches-first = λ j k i hj hk d hi. omega (arith, fetch-lt j k hj hk d);
@@ -254,23 +262,26 @@ module _ (T : Table) (A : AllHonest T) (earlier : List (List ℕ)) (p : ℕ) (C 
     none-early = λ j k l hj hk d hl i b. back-later i l (fetchAt j k) (fetch-lt j k hj hk d) (b .called);
   }
 
-  has-room : (i : ℕ) → i < M + n + N + n → answerAt (ruled T) earlier later i ≡ 13 → ⊥
-  has-room = in-parts n p entry (λ i. answerAt (ruled T) earlier later i ≡ 13 → ⊥)
+  has-room : (i : ℕ) → i < M + n + N + n → answerAt E earlier later i ≡ 13 → ⊥
+  has-room = in-parts n p entry (λ i. answerAt E earlier later i ≡ 13 → ⊥)
       (λ a l e. answers.fetch-room T (now (0 + a)) _ _ p (given (0 + a) _ (said (P .fetches) a l) e))
       (λ a l e. few (M + a) _ (said (P .hashes) a l) (omega (arith, hashed a (omega arith) .size)) e)
       (λ a l e. answers.hear-room T (now (M + n + a)) _ _ (given (M + n + a) _ (said (P .hears) a l) e))
       (λ a l e. few (M + n + N + a) _ (said (P .backs) a l) (omega (arith, backed a (omega arith))) e)
     where
-      given : (i : ℕ) (st : Step) → stepAt later i ≡ Formed st → answerAt (ruled T) earlier later i ≡ 13 → answer T (now i) st ≡ 13
-      given i st s e = sym (its-answer T earlier later i st s) ∙ e
+      given : (i : ℕ) (st : Step) → stepAt later i ≡ Formed st → answerAt E earlier later i ≡ 13 → answer T (now i) st ≡ 13
+      given i st s e = sym (its-answer O earlier later i st s) ∙ e
 
-      few : (i : ℕ) (st : Step) → stepAt later i ≡ Formed st → length (now i .bag) < capacity → answerAt (ruled T) earlier later i ≡ 13 → ⊥
+      few : (i : ℕ) (st : Step) → stepAt later i ≡ Formed st → length (now i .bag) < capacity → answerAt E earlier later i ≡ 13 → ⊥
       few i st s l e = answers.step-room T (now i) st l (given i st s e)
 
-  pub closing : CloseInTurn T (ruled T) earlier later p
+  pub closing : CloseInTurn T E earlier later p
   closing = record {
     closed = C;
     exchange = exchange;
     in-turn = in-turn;
     undisturbed = record { none-down = none-down; never-full = λ i l. has-room i (omega (arith, P .long)) };
   }
+
+  pub untaken : NoTakes T E earlier later p
+  untaken i j k x e a = none-taken i j k x e

@@ -1,179 +1,91 @@
 -- P3 by the rules, and by every engine that follows them: a close that comes through.
-use Prim.Native.Nat.{ℕ, suc, _≤_, _<_}
+use Prim.Native.Nat.{ℕ}
 use native.Mathlib.Omega.{arith}
-use mathlib.Core.Bool.{Bool, true, false}
-use mathlib.Core.List.{List, _++_}
-use mathlib.Core.Path.{_≡_, refl, sym, ap, subst, _∙_}
-use mathlib.Core.Logic.{_⊎_, inl, inr, ⊎-elim}
-use lib.ListN.{length}
-use borrow.Author.Tests.{leb-true, le-leb}
-use Rattle.base.specs.Sets.{add4}
-use Rattle.base.proofs.Truth.{either, true-false}
-use Rattle.base.proofs.Weight.{weight-within}
-use Rattle.base.proofs.Sets.{new4}
-use Rattle.rules.specs.declared.Entry.{Entry}
-use Rattle.rules.specs.declared.Entry.the-variants.{Hash, Backing}
-use Rattle.rules.specs.declared.Step.the-variants.{Hear, Back}
-use Rattle.rules.specs.declared.Call.the-variants.{Formed}
-use Rattle.rules.specs.Table.{Table, weigh}
-use Rattle.rules.specs.Bag.{isIn, entryAt, signerOf, periodOf, boardOf}
+use mathlib.Core.Bool.{true, false}
+use mathlib.Core.List.{List, [], _∷_, _++_, append-assoc}
+use mathlib.Core.Path.{_≡_, sym, ap, subst, _∙_}
+use Rattle.base.proofs.Truth.{is-false}
+use Rattle.base.proofs.Weight.{weight-member}
+use Rattle.rules.specs.declared.Entry.the-variants.{Backing}
+use Rattle.rules.specs.Table.{Table}
+use Rattle.rules.specs.Bag.{isIn, entryAt, boardsIn}
+use Rattle.rules.specs.Ideal.{isThere}
 use Rattle.rules.specs.State.{State}
 use Rattle.rules.specs.Form.{read}
-use Rattle.rules.specs.Rules.{rule, answer, boardBy}
 use Rattle.rules.specs.Run.{Engine, byRules, run}
 use Rattle.rules.specs.Follows.{Follows}
-use Rattle.rules.specs.Valid.{Peer}
 use Rattle.rules.proofs.Always.{invariant}
+use Rattle.rules.proofs.Bag.{backs, in-at, there-stands}
 use Rattle.rules.proofs.Follows.{rules-follow}
 use Rattle.rules.proofs.Valid.{always-valid}
-use Rattle.edges.specs.Exact.{heardOwn, own-backing}
-use Rattle.edges.proofs.Exact.{exact-edges}
 use Rattle.liveness.specs.Union.{unionBoard}
-use Rattle.liveness.specs.Places.{Behaviour, behaviour, stepAt, heldAt, answerAt}
-use Rattle.liveness.specs.Close.{AllHonest, Exchange, BacksAt, InOrder, Close}
-use Rattle.liveness.specs.InTurn.{CloseInTurn, everyone}
-use Rattle.liveness.specs.Through.{ComesThrough, AlwaysThrough}
-use Rattle.liveness.proofs.Places.{ruled, as-rules, in-list, its-answer, now-step, now-done, at-end, along, keeps}
-use Rattle.liveness.proofs.Answers.{hear-done, entered, call-room}
-use Rattle.liveness.proofs.Union.{union-items}
-use Rattle.liveness.proofs.Fetches.{Steady, steady}
-use Rattle.liveness.proofs.Backed.{BackedIn, backed-step}
-use Rattle.liveness.proofs.Settled.{all-enough, Settled, settled-run, can-publish}
+use Rattle.liveness.specs.Places.{behaviour, stepAt, heldAt}
+use Rattle.liveness.specs.Close.{AllHonest, Close}
+use Rattle.liveness.specs.Through.{Publishable, ComesThrough, AlwaysThrough}
+use Rattle.liveness.specs.Lent.{CanPublish, LentThrough}
+use Rattle.liveness.proofs.Places.{obeys, ruled, as-rules}
+use Rattle.liveness.proofs.Answers.{call-room}
+use Rattle.liveness.proofs.Fetches.{taken-known}
+use Rattle.liveness.proofs.Lent.{lent-through, in-order}
 
+-- From the fresh state there is more: an honest peer's signatures are in its own database, of p there is no backing
+-- before, and a board has a quorum of backers.
 module _ (T : Table) (A : AllHonest T) (earlier later : List (List ℕ)) (p : ℕ) (K : Close T (ruled T) earlier later p) where
   abbrev begin : State
   begin = run T earlier .engine
 
-  abbrev now : ℕ → State
-  now i = heldAt (ruled T) earlier later i
-
-  -- the union's board
   abbrev U : ℕ
   U = unionBoard T begin p
-
-  abbrev X : Exchange T (ruled T) earlier later p (K .listens)
-  X = K .exchange
-
-  abbrev O : InOrder T (ruled T) earlier later p X
-  O = K .in-order
-
-  abbrev S : Steady T earlier later p (X .fetchAt)
-  S = steady T A earlier later p (K .closed) (K .undisturbed .none-down) (X .fetchAt) (X .fetches)
-
-  -- what j hears of k is the hash of U
-
-  hash-of : (j k : ℕ) → Peer T j → Peer T k → K .listens j k ≡ true
-      → entryAt (now (X .hearAt j k) .bag) (X .entry j k) ≡ Hash k p U
-  hash-of j k hj hk w =
-      let sent = S .its-board (X .hashAt k) k hk (λ m hm d. O .fetch-first k m hk hm d) in
-      X .of-these j k hj hk w ∙ ap (Hash k p) sent
-
-  heard : (i j k : ℕ) → Peer T j → Peer T k → K .listens j k ≡ true → X .hearAt j k < i → now i .toBack j ≤ p → now i .heard j k p U ≡ true
-  unfolding rule
-  heard i j k hj hk w before late =
-      let at = X .hearAt j k in
-      let it = hash-of j k hj hk w in
-      let zero = hear-done T (now at) j (X .entry j k) k p U (S .able at j hj) it (S .closed at j hj) in
-      let left = now-done T earlier later at (Hear j (X .entry j k)) (X .hears j k hj hk w) zero in
-      let noted : Entry → Bool = λ a. add4 j (signerOf a) (periodOf a) (boardOf a) (now at .heard) j k p U in
-      let new = subst (λ (a : Entry). noted a ≡ true) (sym it) (new4 j k p U (now at .heard)) in
-      keeps T earlier later (suc at) i before .heard j k p U hj (A .honest j hj) late
-      (subst (λ (v : State). v .heard j k p U ≡ true) (sym left) new)
-
-  -- of p there is no backing before, and each one is of U
 
   none-yet : (k B : ℕ) → isIn (Backing k p B) (begin .bag) ≡ true → ⊥
   none-yet k B b =
       let h = always-valid T earlier .bag .entries (Backing k p B) b .0 in
       omega (arith, K .closed .due k h, invariant T (A .premise) earlier .backings .done k p B b (A .honest k h))
 
-  -- whoever backs p has fetched all
-  backs-union : (i j : ℕ) → Peer T j → BacksAt T (ruled T) earlier later p i j → boardBy T (now i) j p ≡ U
-  backs-union i j h b = S .its-board i j h (λ k hk d. O .none-early j k h hk d i b)
+  not-before : (k B : ℕ) → isIn (Backing k p B) (begin .bag) ≡ false
+  not-before k B = is-false (isIn (Backing k p B) (begin .bag)) (none-yet k B)
 
-  backed : (i : ℕ) → BackedIn T p U (now i)
-  backed = along T earlier later (BackedIn T p U)
-      (record { due = λ k h. inl (K .closed .due k h); only = λ k B b. absurd (none-yet k B b) })
-      (λ i st e a c I. backed-step T p U A (now i) I st (λ j u h n. backs-union i j h (record {
-        called = e ∙ ap Formed u;
-        of-p = n;
-        taken = its-answer T earlier later i st e ∙ a;
-      })) c)
+  lent : LentThrough T (ruled T) earlier later p
+  lent = lent-through (obeys T) A earlier later p K (taken-known T A earlier later p)
 
-  fetched : (j k : ℕ) → Peer T j → Peer T k → (j ≡ k → ⊥) → X .fetchAt j k < X .backAt j
-  fetched j k hj hk d = go (either (K .listens j j))
-    where
-      go : (K .listens j j ≡ true) ⊎ (K .listens j j ≡ false) → X .fetchAt j k < X .backAt j
-      go (inl w) = omega (arith, O .fetch-first j k hj hk d, O .hash-first j j hj hj w, O .hear-first j j hj hj w)
-      go (inr w) = O .back-last j k hj hk d w
+  module _ (more : List (List ℕ)) where
+    abbrev calls : List (List ℕ)
+    calls = (earlier ++ later) ++ more
 
-  -- where j backs, it has fetched all, and has heard a quorum of hashes of its board
-  module _ (j : ℕ) (hj : Peer T j) where
-    abbrev at : ℕ
-    at = X .backAt j
+    abbrev can : CanPublish T (ruled T) begin calls p U
+    can = lent .publishable more
 
-    own : boardBy T (now at) j p ≡ U
-    own = S .its-board at j hj (λ k hk d. fetched j k hj hk d)
+    only : (e k B : ℕ) → entryAt (run T calls .engine .bag) e ≡ Backing k p B → B ≡ U
+    only e k B it = can .only e k B it (not-before k B)
 
-    heard-own : now at .toBack j ≡ p → (k : ℕ) → Peer T k → K .listens j k ≡ true → heardOwn T (now at) j k ≡ true
-    heard-own u k hk w =
-        let it = heard at j k hj hk w (O .hear-first j k hj hk w) (omega arith) in
-        subst (λ (q : ℕ). now at .heard j k q (boardBy T (now at) j q) ≡ true) (sym u)
-        (subst (λ (B : ℕ). now at .heard j k p B ≡ true) (sym own) it)
+  -- a board of p has a quorum of backers, who all backed U
+  one-board : (more : List (List ℕ)) (B : ℕ)
+      → isThere (boardsIn (run T (calls more) .engine .bag)) p B ≡ true → B ≡ U
+  one-board more B h =
+      let bag = run T (calls more) .engine .bag in
+      let enough = invariant T (A .premise) (calls more) .boards p B (sym (there-stands p B bag) ∙ h) in
+      let member = weight-member (T .weightOf) (T .n) (λ k. backs bag k p B) (omega (arith, A .premise .threshold, enough)) in
+      let at = in-at (Backing (member .0) p B) bag (member .1) in
+      only more (at .0) (member .0) B (at .2)
 
-    heard-enough : now at .toBack j ≡ p → T .t ≤ weigh T (heardOwn T (now at) j)
-    heard-enough u =
-        let asked = leb-true (T .t) (weigh T (K .listens j)) (K .enough j hj) in
-        omega (arith, asked, weight-within (T .weightOf) (T .n) (K .listens j) (heardOwn T (now at) j) (λ k l m. heard-own u k (l, m)))
-
-    its-back : answerAt (ruled T) earlier later at ≡ answer T (now at) (Back j)
-    its-back = its-answer T earlier later at (Back j) (X .backs j hj)
-
-    accepted : now at .toBack j ≡ p → answer T (now at) (Back j) ≡ 0
-    accepted u = entered T (now at) (Back j) _
-        (own-backing j (S .able at j hj) (omega (arith, u, S .closed at j hj)) (heard-enough u))
-        (λ full. K .undisturbed .never-full at (in-list later at (Back j) (X .backs j hj)) (its-back ∙ full))
-
-    -- so after it j has backed p, unless it had before
-    backs-there : p < now (suc at) .toBack j
-    backs-there = ⊎-elim here (λ u. omega (arith, u .0, keeps T earlier later at (suc at) (omega arith) .toBack j)) (backed at .due j hj)
-      where
-        here : now at .toBack j ≡ p → p < now (suc at) .toBack j
-        here u = subst (λ (v : State). p < v .toBack j) (sym (now-step T earlier later at (Back j) (X .backs j hj)))
-            (omega (arith, u, exact-edges T (now at) .backs j (accepted u) .0))
-
-  settled : Settled T A p U (run T (earlier ++ later) .engine)
-  settled = subst (Settled T A p U) (at-end T earlier later (length later) (omega arith)) (record {
-    backed = backed (length later);
-    over = λ k h.
-        let within = in-list later (X .backAt k) (Back k) (X .backs k h) in
-        omega (arith, backs-there k h, keeps T earlier later (suc (X .backAt k)) (length later) within .toBack k);
-  })
-
-  comes-through : ComesThrough T (ruled T) earlier later p
-  comes-through = record {
-    items = union-items T begin p;
-    same-union = S .same-union;
-    publishable = λ more. can-publish T A p U ((earlier ++ later) ++ more) (settled-run T A p U (earlier ++ later) more settled);
+  publishable : (more : List (List ℕ)) → Publishable T (ruled T) (calls more) p U
+  publishable more = record {
+    backed = can more .backed;
+    only = only more;
+    publishes = λ c e k B r it room.
+        let it-is = it ∙ ap (Backing k p) (only more e k B it) in
+        let done = can more .publishes c e k r it-is room in (
+          done .0,
+          record {
+            stands = done .1;
+            alone = subst (λ (l : List (List ℕ)). (B : ℕ) → isThere (boardsIn (run T l .engine .bag)) p B ≡ true → B ≡ U)
+                (sym (append-assoc (earlier ++ later) more (c ∷ []))) (one-board (more ++ (c ∷ [])));
+          },
+        );
   }
 
--- document 02's own order is one in which each hears a quorum
-in-order : (T : Table) → AllHonest T → (E : Behaviour) (earlier later : List (List ℕ)) (p : ℕ)
-    → CloseInTurn T E earlier later p → Close T E earlier later p
-in-order T A E earlier later p K = let I = K .in-turn in record {
-  closed = K .closed;
-  listens = everyone;
-  enough = λ j h. le-leb (T .t) (weigh T (everyone j)) (all-enough T A (everyone j) (λ k hk. refl));
-  exchange = K .exchange;
-  in-order = record {
-    fetch-first = λ j k hj hk d. I .fetches-first j k j hj hk d hj;
-    hash-first = λ j k hj hk w. I .hashes-first j k k hj hk hk;
-    hear-first = λ j k hj hk w. I .hears-first j k j hj hk hj;
-    back-last = λ j k hj hk d w. true-false w;
-    none-early = λ j k hj hk d i b. I .none-early j k j hj hk d hj i b;
-  };
-  undisturbed = K .undisturbed;
-}
+  comes-through : ComesThrough T (ruled T) earlier later p
+  comes-through = record { items = lent .items; same-union = lent .same-union; publishable = publishable }
 
 pub rules-through : (T : Table) → AllHonest T → AlwaysThrough T (ruled T)
 rules-through T A = record {

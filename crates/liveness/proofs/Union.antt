@@ -3,7 +3,7 @@ use Prim.Native.Nat.{ℕ, zero, suc, _≤_, _<_}
 use native.Mathlib.Decide.{decLt}
 use native.Mathlib.Omega.{arith}
 use mathlib.Core.Bool.{Bool, true, false, _&&_}
-use mathlib.Core.Path.{_≡_, refl, subst}
+use mathlib.Core.Path.{_≡_, refl, ap, subst}
 use lib.Dec.{ltb}
 use borrow.Author.Tests.{lt-ltb, le-ltb}
 use Rattle.base.specs.Bits.{bit}
@@ -17,12 +17,11 @@ use Rattle.rules.specs.Table.{Table, quorum}
 use Rattle.rules.specs.State.{State}
 use Rattle.rules.specs.Rules.{rule, boardFrom}
 use Rattle.rules.specs.Valid.{Peer}
-use Rattle.rules.proofs.Answered.{Clear, judged}
+use Rattle.rules.proofs.Answered.{Clear}
 use Rattle.rules.proofs.Each.{each}
 use Rattle.rules.proofs.Rows.{rows-grow}
 use Rattle.rules.proofs.Valid.{is-peer}
 use Rattle.liveness.specs.Union.{unionOf, union, unionBoard}
-use Rattle.liveness.specs.Close.{AllHonest}
 
 -- the union of n databases has what one of them has, and nothing else
 module _ (n : ℕ) (databases : ℕ → ℕ → ℕ → Bool) where
@@ -59,15 +58,18 @@ module _ (T : Table) (p : ℕ) (most : ℕ → ℕ → Bool) where
   abbrev pub CalmIn : State → Type 0
   CalmIn s = Calm (s .down) (s .db)
 
-  -- once p is closed, and with honest peers only, whose signatures are in their own databases
-  module _ (A : AllHonest T) (s : State) (closed : (k : ℕ) → Peer T k → p < s .current k)
-      (own : (j q x : ℕ) → s .signed j q x ≡ true → T .honest j ≡ true → s .db j q x j ≡ true) (I : CalmIn s) where
+  -- once p is closed
+  module _ (s : State) (closed : (k : ℕ) → Peer T k → p < s .current k) (I : CalmIn s) where
     -- a step that takes no peer down
     abbrev NoDown : Step → Type 0
     NoDown st = (j : ℕ) → Peer T j → st ≡ Down j → ⊥
 
+    -- a take of p that brings nothing new: a database has it already
+    abbrev NothingNew : Step → Type 0
+    NothingNew st = (j k x : ℕ) → st ≡ Take j k p x → union T s p x k ≡ true
+
     abbrev StaysCalm : Step → Type 0
-    StaysCalm st = NoDown st → Clear T s st → CalmIn (rule T s st .effect)
+    StaysCalm st = NoDown st → NothingNew st → Clear T s st → CalmIn (rule T s st .effect)
 
     known : (k q x l : ℕ) → s .db k q x l ≡ true → q ≡ p → Peer T k → most x l ≡ true
     known k q x l d e h = I .within k x l h (subst (λ (a : ℕ). s .db k a x l ≡ true) e d)
@@ -82,19 +84,19 @@ module _ (T : Table) (p : ℕ) (most : ℕ → ℕ → Bool) where
     -- a peer signs in its open period, which is not p
     calm-sign : (j x : ℕ) → StaysCalm (Sign j x)
     unfolding rule
-    calm-sign j x n c = with-one j (s .current j) x j (λ e h. absurd (omega (arith, closed j h)))
+    calm-sign j x n t c = with-one j (s .current j) x j (λ e h. absurd (omega (arith, closed j h)))
 
-    -- a signature that is taken is in its signer's database
+    -- a signature of p that is taken is in some database
     calm-take : (j k q x : ℕ) → StaysCalm (Take j k q x)
     unfolding rule
-    calm-take j k q x n c =
-        let peer : Peer T k = is-peer T k (search) in
-        with-one j q x k (λ e h. known k q x k (own k q x (search judged) (A .honest k peer)) e peer)
+    calm-take j k q x n t c = with-one j q x k (λ e h.
+        let r = union-of (T .n) (λ j. s .db j p) x k (t j k x (ap (λ (a : ℕ). Take j k a x) e)) in
+        I .within (r .0) x k (r .1 .0) (r .1 .1))
 
     -- what a fetch adds is in the other's database
     calm-fetch : (j k q : ℕ) → StaysCalm (Fetch j k q)
     unfolding rule
-    calm-fetch j k q n c = record {
+    calm-fetch j k q n t c = record {
       up = I .up;
       within = λ i x l h d. rows-grow j q (s .db k q) (s .db) {P = λ i q x l. q ≡ p → Peer T i → most x l ≡ true}
           (λ x l d e g. known k q x l d e (is-peer T k (search))) known i p x l d refl h;
@@ -102,11 +104,11 @@ module _ (T : Table) (p : ℕ) (most : ℕ → ℕ → Bool) where
 
     calm-down : (j : ℕ) → StaysCalm (Down j)
     unfolding rule
-    calm-down j n c = absurd (n j (is-peer T j (search)) refl)
+    calm-down j n t c = absurd (n j (is-peer T j (search)) refl)
 
     calm-up : (j : ℕ) → StaysCalm (Up j)
     unfolding rule
-    calm-up j n c = record { up = set-elim (λ k b. Peer T k → b ≡ false) j false (s .down) (λ h. refl) (I .up); within = I .within }
+    calm-up j n t c = record { up = set-elim (λ k b. Peer T k → b ≡ false) j false (s .down) (λ h. refl) (I .up); within = I .within }
 
     pub calm-step : (st : Step) → StaysCalm st
     unfolding rule

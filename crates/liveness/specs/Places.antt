@@ -5,17 +5,25 @@ use lib.ListN.{getD, take}
 use Rattle.rules.specs.declared.Call.{Call}
 use Rattle.rules.specs.State.{State}
 use Rattle.rules.specs.Form.{read}
-use Rattle.rules.specs.Run.{Engine, after, storeAfter}
+use Rattle.rules.specs.Run.{Engine, after, storeFrom, storeAfter}
 
--- what is held after a list of calls from fresh, and the answer that the next call gets
+-- what is held after a list of calls, and the answer that the next call gets
 pub record Behaviour : Type 0 where
   pub held : List (List ℕ) → State
   pub answers : List (List ℕ) → List ℕ → ℕ
 
+-- from the fresh state
 abbrev pub behaviour : {X : Type 0} → Engine X → Behaviour
 behaviour E = record {
   held = λ calls. after E calls .engine;
   answers = λ calls c. E .answers (storeAfter E calls) c;
+}
+
+-- from any store, lent to it
+abbrev pub behaviourFrom : {X : Type 0} → Engine X → X → Behaviour
+behaviourFrom E x = record {
+  held = λ calls. E .holds (storeFrom E x calls);
+  answers = λ calls c. E .answers (storeFrom E x calls) c;
 }
 
 -- the call at place i of a list, counted from 0; past its end stands one of no bytes, which is no step

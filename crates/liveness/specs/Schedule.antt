@@ -21,6 +21,7 @@ use Rattle.liveness.specs.Places.{Behaviour, callAt}
 use Rattle.liveness.specs.Close.{Closed}
 use Rattle.liveness.specs.InTurn.{CloseInTurn}
 use Rattle.liveness.specs.Through.{TheBoard}
+use Rattle.liveness.specs.Lent.{NoTakes}
 
 -- a call for each of the peers 1 to n
 abbrev pub forPeers : ℕ → (ℕ → Step) → List (List ℕ)
@@ -80,3 +81,8 @@ module _ (T : Table) (E : Behaviour) where
   abbrev pub MadeOfBytes : Type 0
   MadeOfBytes = (earlier : List (List ℕ)) (p : ℕ) → Closed T (E .held earlier) p → Room T (E .held earlier)
       → (i : ℕ) → i < length (schedule T E earlier p) → InBytes earlier p i
+
+  -- from a store that was lent the schedule is one too, and it has no takes
+  abbrev pub LentCanClose : Type 0
+  LentCanClose = (earlier : List (List ℕ)) (p : ℕ) → Closed T (E .held earlier) p → Room T (E .held earlier)
+      → CloseInTurn T E earlier (schedule T E earlier p) p × NoTakes T E earlier (schedule T E earlier p) p
