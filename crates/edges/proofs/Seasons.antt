@@ -19,7 +19,7 @@ use Rattle.header.specs.declared.season.Season.the-variants.{First}
 use Rattle.header.specs.Season.{zeroThen, seasonOf, fieldsAt}
 use Rattle.header.specs.Header.{headerSize, fieldOf, itemsOf, headOf, weightCount, headerOk}
 use Rattle.header.proofs.Fields.{header-short}
-use Rattle.header.proofs.Seasons.{starts-otherwise, zero-two, zero-three, older, no-weights, no-season}
+use Rattle.header.proofs.Seasons.{starts-otherwise, zero-two, zero-three, second-of, third-of, older, no-weights, no-season}
 use Rattle.header.proofs.Seasons.{first-field, first-size, second-field, second-size, third-size}
 use Rattle.ballot.specs.declared.item.Kind.{Kind}
 use Rattle.ballot.specs.declared.item.Kind.the-variants.{Vote, Audit, PlacedAudit, Cancellation}
@@ -28,7 +28,7 @@ use Rattle.ballot.specs.declared.item.Item.{Item}
 use Rattle.ballot.specs.declared.item.Reading.{Reading}
 use Rattle.ballot.specs.declared.item.Reading.the-variants.{Good, Wrong}
 use Rattle.ballot.specs.Item.{ballotOf, kindByte, placeOf, readKind, readItem, readingNumber, isItem, itemAt, allItems, takes}
-use Rattle.ballot.specs.Table.{auditsOf, tablePairsOk, itemBelow, itemText, itemsOk, noTwins, refusal}
+use Rattle.ballot.specs.Table.{auditsIn, auditsOf, tablePairsOk, itemBelow, itemText, itemsOk, noTwins, refusal}
 use Rattle.ballot.proofs.Readings.{good-read, read-good}
 use Rattle.ballot.proofs.Sound.{sound}
 use Rattle.clash.specs.Clash.{kindsClash, readingsClash, clash, clashIn}
@@ -251,6 +251,8 @@ unfolding readItem readKind numberAt
 places-clash = record {
   items = λ a b p q same k l. rw (k, l, same, eqb-self (b .ballot));
   texts = λ a b c d p q. clash-by-place (a ∷ b ∷ c ∷ d ∷ 2 ∷ p ∷ []) (a ∷ b ∷ c ∷ d ∷ 2 ∷ q ∷ []) _ p q refl refl;
+  after-0-2 = λ s e. ap auditsIn (second-of s e);
+  after-0-3 = λ s e. ap auditsIn (third-of s e);
   table = in-table;
 }
 

@@ -88,5 +88,13 @@ weight-cases = record {
   two-taken = refl;
   two-honest = refl;
   threshold = refl;
+  lie-taken = refl;
+  lie-heads = refl;
+  lie-honest = refl;
+  hold-taken = refl;
+  hold-heads = refl;
+  hold-honest = refl;
+  hold-total = refl;
+  hold-threshold = refl;
   ones = ones-met;
 }

@@ -89,6 +89,9 @@ pub record PlacesClash : Type 0 where
       → itemsClash a b ≡ not (eqb p q)
   pub texts : (a b c d p q : ℕ)
       → clash Placed (a ∷ b ∷ c ∷ d ∷ 2 ∷ p ∷ []) (a ∷ b ∷ c ∷ d ∷ 2 ∷ q ∷ []) ≡ not (eqb p q)
+  -- these are the tables that start with 0 and 2, and with 0 and 3
+  pub after-0-2 : (s : List ℕ) → zeroThen s 2 ≡ true → Placed ≡ auditsOf s
+  pub after-0-3 : (s : List ℕ) → zeroThen s 3 ≡ true → Placed ≡ auditsOf s
   pub table : (s : List ℕ) → refusal s ≡ 0 → Placed ≡ auditsOf s → (i j : ℕ) → i < itemsOf s → j < itemsOf s
       → kindByte (itemText s i) ≡ kindNumber Audit → kindByte (itemText s j) ≡ kindNumber Audit
       → ballotOf (itemText s i) ≡ ballotOf (itemText s j)

@@ -7,7 +7,7 @@ use lib.ListN.{replicate}
 use Rattle.header.specs.Header.{headOf, thresholdOf, totalWeight, honestCount}
 use Rattle.header.specs.Quorum.{reaches, honestWeight}
 use Rattle.ballot.specs.Table.{refusal}
-use Rattle.edges.specs.Tables.{empty, audit}
+use Rattle.edges.specs.Tables.{empty, vote, audit}
 use Rattle.edges.specs.Cases.{bytes, Worked}
 use Rattle.edges.specs.Seasons.{auditFrom, twoPlaces}
 use Rattle.edges.specs.Weights.{SameButOnes}
@@ -99,6 +99,79 @@ weightsCarry =
     ∷ (bytes 5 2 0 0 0 0, 17)  -- share 2 0
     ∷ []
 
+-- Four peers of weights 4, 1, 1 and 1, threshold 5, this honest set, two periods; two votes of one ballot, which clash.
+abbrev pub clashTable : ℕ → List ℕ
+clashTable honest =
+    third (4 ∷ 5 ∷ 0 ∷ honest ∷ 2 ∷ 2 ∷ 4 ∷ 1 ∷ 1 ∷ 1 ∷ 0 ∷ 20 ∷ 0 ∷ 6 ∷ 0 ∷ 26 ∷ 0 ∷ 6 ∷
+    (vote (0 ∷ []) ++ vote (1 ∷ [])))
+
+-- Peers 2, 3 and 4 are honest, three of four heads, and weigh 3. With peer 1, which weighs 4, each of two of them carries
+-- one of the clashing votes to its receipt (weights-lie).
+abbrev pub weightsLie : Worked
+weightsLie =
+    (bytes 1 0 0 0 0 0, 0)  -- post 0
+    ∷ (bytes 1 0 0 0 1 0, 0)  -- post 1
+    ∷ (bytes 2 2 0 0 0 0, 0)  -- hand 2 0
+    ∷ (bytes 3 2 0 0 0 0, 0)  -- sign 2 0
+    ∷ (bytes 2 3 0 0 1 0, 0)  -- hand 3 1
+    ∷ (bytes 3 3 0 0 1 0, 0)  -- sign 3 1
+    ∷ (bytes 13 1 0 0 0 0, 0)  -- false signature 1 0 0
+    ∷ (bytes 13 1 0 0 1 0, 0)  -- false signature 1 0 1
+    ∷ (bytes 4 2 1 0 0 0, 0)  -- take 2 1 0 0
+    ∷ (bytes 4 3 1 0 1 0, 0)  -- take 3 1 0 1
+    ∷ (bytes 5 2 0 0 0 0, 0)  -- share 2 0
+    ∷ (bytes 5 3 0 0 1 0, 0)  -- share 3 1
+    ∷ (bytes 14 1 0 0 0 0, 0)  -- false share 1 0 0
+    ∷ (bytes 14 1 0 0 1 0, 0)  -- false share 1 0 1
+    ∷ (bytes 6 0 0 0 0 0, 0)  -- receipt 0 0
+    ∷ (bytes 6 0 0 0 1 0, 0)  -- receipt 0 1
+    ∷ []
+
+-- Peers 1 and 2 are honest, two of four heads, and weigh 5, just t. The two others sign, share and back whatever there
+-- is, and one of the clashing votes is receipted and published (weights-hold).
+abbrev pub weightsHold : Worked
+weightsHold =
+    (bytes 1 0 0 0 0 0, 0)  -- post 0
+    ∷ (bytes 1 0 0 0 1 0, 0)  -- post 1
+    ∷ (bytes 2 1 0 0 0 0, 0)  -- hand 1 0
+    ∷ (bytes 2 2 0 0 1 0, 0)  -- hand 2 1
+    ∷ (bytes 3 1 0 0 0 0, 0)  -- sign 1 0
+    ∷ (bytes 3 2 0 0 1 0, 0)  -- sign 2 1
+    ∷ (bytes 13 3 0 0 0 0, 0)  -- false signature 3 0 0
+    ∷ (bytes 13 3 0 0 1 0, 0)  -- false signature 3 0 1
+    ∷ (bytes 13 4 0 0 0 0, 0)  -- false signature 4 0 0
+    ∷ (bytes 13 4 0 0 1 0, 0)  -- false signature 4 0 1
+    ∷ (bytes 4 1 3 0 0 0, 0)  -- take 1 3 0 0
+    ∷ (bytes 4 2 3 0 1 0, 0)  -- take 2 3 0 1
+    ∷ (bytes 4 2 4 0 1 0, 0)  -- take 2 4 0 1
+    -- the first vote has two signers, which weigh 5, and the second three, which weigh 3
+    ∷ (bytes 5 1 0 0 0 0, 0)  -- share 1 0
+    ∷ (bytes 5 2 0 0 1 0, 12)  -- share 2 1
+    ∷ (bytes 14 3 0 0 0 0, 0)  -- false share 3 0 0
+    ∷ (bytes 14 3 0 0 1 0, 0)  -- false share 3 0 1
+    ∷ (bytes 14 4 0 0 1 0, 0)  -- false share 4 0 1
+    ∷ (bytes 6 0 0 0 0 0, 0)  -- receipt 0 0
+    ∷ (bytes 6 0 0 0 1 0, 12)  -- receipt 0 1
+    ∷ (bytes 7 1 0 0 0 0, 0)  -- close 1
+    ∷ (bytes 7 2 0 0 0 0, 0)  -- close 2
+    ∷ (bytes 8 2 1 0 0 0, 0)  -- fetch 2 1 0
+    ∷ (bytes 9 1 0 0 0 0, 0)  -- hash 1 0
+    ∷ (bytes 9 2 0 0 0 0, 0)  -- hash 2 0
+    ∷ (bytes 15 3 0 0 0 2, 0)  -- false hash 3 0 board of item 1
+    ∷ (bytes 10 1 0 0 0 0, 0)  -- hear 1 entry 0
+    ∷ (bytes 10 1 0 0 1 0, 0)  -- hear 1 entry 1
+    ∷ (bytes 11 1 0 0 0 0, 0)  -- back 1
+    ∷ (bytes 10 2 0 0 1 0, 0)  -- hear 2 entry 1
+    ∷ (bytes 10 2 0 0 2 0, 0)  -- hear 2 entry 2
+    ∷ (bytes 11 2 0 0 0 0, 12)  -- back 2
+    ∷ (bytes 10 2 0 0 0 0, 0)  -- hear 2 entry 0
+    ∷ (bytes 11 2 0 0 0 0, 0)  -- back 2
+    ∷ (bytes 16 3 0 0 0 2, 0)  -- false backing 3 0 board of item 1
+    ∷ (bytes 16 4 0 0 0 2, 0)  -- false backing 4 0 board of item 1
+    ∷ (bytes 12 0 0 0 5 0, 12)  -- publish entry 5
+    ∷ (bytes 12 0 0 0 3 0, 0)  -- publish entry 3
+    ∷ []
+
 -- 0 is taken, 1 header, 2 pairs, 3 item
 pub record WeightCases : Type 0 where
   -- the weights are there, one for each peer
@@ -139,5 +212,14 @@ pub record WeightCases : Type 0 where
   pub two-taken : refusal (carryTable 3) ≡ 0
   pub two-honest : honestWeight (headOf (carryTable 3)) ≡ 5
   pub threshold : thresholdOf (carryTable 3) ≡ 5
+  -- three honest heads that weigh 3, and two that weigh 5
+  pub lie-taken : refusal (clashTable 14) ≡ 0
+  pub lie-heads : honestCount (headOf (clashTable 14)) ≡ 3
+  pub lie-honest : honestWeight (headOf (clashTable 14)) ≡ 3
+  pub hold-taken : refusal (clashTable 3) ≡ 0
+  pub hold-heads : honestCount (headOf (clashTable 3)) ≡ 2
+  pub hold-honest : honestWeight (headOf (clashTable 3)) ≡ 5
+  pub hold-total : totalWeight (clashTable 3) ≡ 7
+  pub hold-threshold : thresholdOf (clashTable 3) ≡ 5
   -- each weight 1, beside the table without them
   pub ones : SameButOnes onesPlaces twoPlaces

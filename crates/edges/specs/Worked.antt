@@ -65,8 +65,8 @@ pub record WorkedRuns : Type 0 where
   pub left-period : RulesEnd tableLeft leftPeriod ((1, 0, 0, 3) ∷ (2, 0, 0, 3) ∷ (3, 0, 0, 3) ∷ []) [] ((0, 0) ∷ [])
   pub left-period-ideal : RulesIdeally tableLeft leftPeriod [] ((0, 0) ∷ []) true
   pub left-period-premise : Premise tableLeft
-  -- with fewer than t honest peers both of the clashing votes are receipted, which was not allowed: demand 3 needs
-  -- its premise
+  -- with honest peers that weigh less than t both of the clashing votes are receipted, which was not allowed: demand 3
+  -- needs its premise
   pub two-liars : RulesEnd tableLiars twoLiars ((1, 0, 0, 3) ∷ (2, 0, 1, 3) ∷ []) ((0, 0) ∷ (0, 1) ∷ []) []
   pub two-liars-ideal : RulesIdeally tableLiars twoLiars ((0, 0) ∷ []) [] false
   pub two-liars-unsafe : Safe tableLiars (run tableLiars) (calls twoLiars) → ⊥
