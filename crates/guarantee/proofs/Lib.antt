@@ -9,3 +9,5 @@ pub mod TotalsWorked
 pub mod Worked
 pub mod Seasons
 pub mod SheetsWorked
+pub mod Lent
+pub mod Seeing

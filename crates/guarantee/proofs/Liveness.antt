@@ -16,7 +16,7 @@ use Rattle.liveness.proofs.CanClose.{can-close, made-of-bytes}
 use Rattle.guarantee.specs.Liveness.{NoneDishonest, BoardsCome}
 use Rattle.guarantee.proofs.Demand3.{bytes-follow, total-weighed, premise}
 
-all-honest : (table : List ℕ) → NoneDishonest table → AllHonest (rulesTable table)
+pub all-honest : (table : List ℕ) → NoneDishonest table → AllHonest (rulesTable table)
 all-honest table N = record {
   premise = premise table (N .taken) (omega (arith, N .honest, S .threshold-most));
   honest = λ k h. weight-full (weightOf (headOf table)) (isHonest (headOf table)) (peersOf table) weighs-some as-all k (h .0) (h .1);

@@ -4,7 +4,8 @@ use Prim.Native.Nat.{ℕ, _≤_}
 use native.Mathlib.Omega.{arith}
 use mathlib.Core.Bool.{true, false}
 use mathlib.Core.List.{List, [], _∷_}
-use mathlib.Core.Path.{_≡_, refl}
+use mathlib.Core.Path.{_≡_, refl, sym, _∙_}
+use Rattle.base.proofs.Truth.{true-false}
 use Rattle.base.specs.Below.{any, every}
 use Rattle.base.specs.Bits.{bit, member, pack}
 use Rattle.base.specs.Bytes.{numberAt, part, sameBytes}
@@ -31,7 +32,7 @@ use Rattle.edges.specs.Premise.{barelyBytes}
 use Rattle.edges.specs.Seasons.{twoPlaces}
 use Rattle.edges.specs.Cases.{Worked, caseR, twoFaced}
 use Rattle.edges.specs.TwoDays.{slipTable, slipOnTwoDays}
-use Rattle.edges.specs.Weighted.{carryTable, weightsCarry}
+use Rattle.edges.specs.Weighted.{carryTable, weightsCarry, clashTable, weightsLie, weightsHold}
 use Rattle.edges.specs.Worked.{RulesEnd, RulesIdeally}
 use Rattle.edges.proofs.Table.{table-cases, season-cases}
 use Rattle.edges.proofs.Weighted.{weight-cases}
@@ -40,12 +41,15 @@ use Rattle.edges.proofs.Worked.{follower-ends, follower-ideally}
 use Rattle.guarantee.specs.Demand3.{HonestEnough}
 use Rattle.guarantee.specs.Worked.{BytesMeet, RunsTo, BytesRun}
 use Rattle.guarantee.proofs.Demand3.{bytes-follow}
-use Rattle.guarantee.proofs.Counted.{enough}
+use Rattle.guarantee.proofs.Counted.{honest-heads, older-ones, enough}
 
 -- as many honest peers as t, in a table without weights
 counted-met : (table : List ℕ) → refusal table ≡ 0 → zeroThen table 3 ≡ false → thresholdOf table ≤ honestCount (headOf table)
     → HonestEnough table
-counted-met table taken older honest = enough table (record { taken = taken; older = older; honest = honest })
+counted-met table taken older honest = enough table (record {
+  weighs-one = older-ones table taken older;
+  honest = omega (arith, honest, honest-heads table taken);
+})
 
 pub bytes-meet : BytesMeet
 unfolding fieldOf
@@ -58,6 +62,7 @@ bytes-meet = record {
   slip-met = counted-met slipTable (table-cases .slip-taken) refl (omega (arith, table-cases .slip-honest));
   carry-met = record { taken = weight-cases .carry-taken; honest = omega (arith, weight-cases .all-honest) };
   two-carry-met = record { taken = weight-cases .two-taken; honest = omega (arith, weight-cases .two-honest) };
+  hold-met = record { taken = weight-cases .hold-taken; honest = omega (arith, weight-cases .hold-honest, weight-cases .hold-threshold) };
 }
 
 -- the runs, by the rules of the byte tables
@@ -78,6 +83,9 @@ pub record Computed : Type 0 where
   pub weights-carry : ByRules (carryTable 15) weightsCarry
       ((1, 0, 0, 2) ∷ (2, 0, 0, 2) ∷ (2, 0, 1, 3) ∷ (3, 0, 0, 2) ∷ (3, 0, 1, 3) ∷ (4, 0, 0, 2) ∷ (4, 0, 1, 3) ∷ [])
       ((0, 0) ∷ []) ((0, 1) ∷ [])
+  pub weights-hold : ByRules (clashTable 3) weightsHold ((1, 0, 0, 2) ∷ (2, 0, 0, 2) ∷ (2, 0, 1, 3) ∷ []) ((0, 0) ∷ []) ((0, 1) ∷ [])
+  pub weights-lie : RulesEnd (rulesTable (clashTable 14)) weightsLie ((2, 0, 0, 2) ∷ (3, 0, 1, 2) ∷ []) ((0, 0) ∷ (0, 1) ∷ []) []
+  pub weights-lie-ideal : RulesIdeally (rulesTable (clashTable 14)) weightsLie ((0, 0) ∷ []) [] false
 
 computed : Computed
 unfolding headerSize fieldOf weightIn peersWith weightOf first any every bit member pack numberAt part sameBytes readItem readKind
@@ -105,6 +113,12 @@ computed = record {
     ends = record { answered = refl; signed = refl; receipted = refl; published = refl };
     ideally = record { receipted = refl; published = refl; allowed = refl };
   };
+  weights-hold = record {
+    ends = record { answered = refl; signed = refl; receipted = refl; published = refl };
+    ideally = record { receipted = refl; published = refl; allowed = refl };
+  };
+  weights-lie = record { answered = refl; signed = refl; receipted = refl; published = refl };
+  weights-lie-ideal = record { receipted = refl; published = refl; allowed = refl };
 }
 
 -- so they end on the bytes
@@ -121,4 +135,11 @@ bytes-run = record {
   two-places = on-bytes (bytes-meet .places-met) (computed .two-places);
   slip-on-two-days = on-bytes (bytes-meet .slip-met) (computed .slip-on-two-days);
   weights-carry = on-bytes (bytes-meet .carry-met) (computed .weights-carry);
+  weights-hold = on-bytes (bytes-meet .hold-met) (computed .weights-hold);
+  weights-lie =
+      let F = bytes-follow (clashTable 14) (weight-cases .lie-taken) in
+      record {
+        ends = follower-ends F (computed .weights-lie);
+        unsafe = λ S. true-false (sym (S .now .allowed) ∙ follower-ideally F (computed .weights-lie-ideal) .allowed);
+      };
 }

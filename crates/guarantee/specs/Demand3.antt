@@ -5,6 +5,7 @@ use mathlib.Core.Path.{_≡_}
 use Rattle.header.specs.Header.{headOf, thresholdOf}
 use Rattle.header.specs.Quorum.{honestWeight}
 use Rattle.ballot.specs.Table.{refusal}
+use Rattle.rules.specs.Table.{Table}
 use Rattle.rules.specs.Run.{World, Engine, after}
 use Rattle.rules.specs.Demand3.{Safe}
 use Rattle.state.specs.Contents.{contents}
@@ -30,6 +31,9 @@ byBytes table = record {
 abbrev pub afterCalls : List ℕ → List (List ℕ) → World
 afterCalls table = after (byBytes table)
 
--- whatever the calls, of any bytes, the board is safe after them
+-- whatever the calls, of any bytes, the board is safe after them, where T is the table of the rules
+abbrev pub AlwaysSafeBy : Table → List ℕ → Type 0
+AlwaysSafeBy T table = (calls : List (List ℕ)) → Safe T (afterCalls table) calls
+
 abbrev pub AlwaysSafe : List ℕ → Type 0
-AlwaysSafe table = (calls : List (List ℕ)) → Safe (rulesTable table) (afterCalls table) calls
+AlwaysSafe table = AlwaysSafeBy (rulesTable table) table

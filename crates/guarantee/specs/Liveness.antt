@@ -5,6 +5,7 @@ use mathlib.Core.Path.{_≡_}
 use Rattle.header.specs.Header.{headOf, totalWeight}
 use Rattle.header.specs.Quorum.{honestWeight}
 use Rattle.ballot.specs.Table.{refusal}
+use Rattle.rules.specs.Table.{Table}
 use Rattle.engine.specs.Engine.{rulesTable}
 use Rattle.liveness.specs.Places.{Behaviour, behaviour}
 use Rattle.liveness.specs.Through.{AlwaysThrough}
@@ -21,8 +22,12 @@ pub record NoneDishonest (table : List ℕ) : Type 0 where
 abbrev pub onBytes : List ℕ → Behaviour
 onBytes table = behaviour (byBytes table)
 
--- every close comes through, and one can be had, in calls of thirteen bytes, wherever there is room for it in the bag
-pub record BoardsCome (table : List ℕ) : Type 0 where
-  pub through : AlwaysThrough (rulesTable table) (onBytes table)
-  pub can-close : CanClose (rulesTable table) (onBytes table)
-  pub in-bytes : MadeOfBytes (rulesTable table) (onBytes table)
+-- every close comes through, and one can be had, in calls of thirteen bytes, wherever there is room for it in the bag,
+-- where T is the table of the rules
+pub record BoardsComeBy (T : Table) (table : List ℕ) : Type 0 where
+  pub through : AlwaysThrough T (onBytes table)
+  pub can-close : CanClose T (onBytes table)
+  pub in-bytes : MadeOfBytes T (onBytes table)
+
+abbrev pub BoardsCome : List ℕ → Type 0
+BoardsCome table = BoardsComeBy (rulesTable table) table

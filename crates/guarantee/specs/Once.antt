@@ -4,6 +4,7 @@ use Prim.Native.Nat.{ℕ}
 use mathlib.Core.Bool.{true}
 use mathlib.Core.List.{List}
 use mathlib.Core.Path.{_≡_}
+use Rattle.rules.specs.Table.{Table}
 use Rattle.rules.specs.Once.{SharedOnce, ReceiptedOnce}
 use Rattle.engine.specs.Engine.{rulesTable}
 use Rattle.report.specs.Words.{receipt}
@@ -15,8 +16,11 @@ use Rattle.guarantee.specs.Demand3.{afterCalls}
 use Rattle.guarantee.specs.Rehearsed.{callsIn}
 
 -- whatever the calls, of any bytes, after them an honest peer's receipt shares on one item are of one period
+abbrev pub SharesOnceBy : Table → List ℕ → Type 0
+SharesOnceBy T table = (calls : List (List ℕ)) → SharedOnce T (afterCalls table calls .engine .shared)
+
 abbrev pub SharesOnce : List ℕ → Type 0
-SharesOnce table = (calls : List (List ℕ)) → SharedOnce (rulesTable table) (afterCalls table calls .engine .shared)
+SharesOnce table = SharesOnceBy (rulesTable table) table
 
 -- and no item has receipts in two periods
 abbrev pub ReceiptsOnce : List ℕ → Type 0

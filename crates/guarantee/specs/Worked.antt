@@ -6,11 +6,12 @@ use Rattle.engine.specs.Engine.{rulesTable}
 use Rattle.edges.specs.Tables as tables
 use Rattle.edges.specs.Premise.{barelyBytes}
 use Rattle.edges.specs.Seasons.{twoPlaces}
-use Rattle.edges.specs.Cases.{Worked, caseR, twoFaced}
+use Rattle.rules.specs.Demand3.{Safe}
+use Rattle.edges.specs.Cases.{Worked, calls, caseR, twoFaced}
 use Rattle.edges.specs.TwoDays.{slipTable, slipOnTwoDays}
-use Rattle.edges.specs.Weighted.{carryTable, weightsCarry}
+use Rattle.edges.specs.Weighted.{carryTable, weightsCarry, clashTable, weightsLie, weightsHold}
 use Rattle.edges.specs.Worked.{Ends, Ideally}
-use Rattle.guarantee.specs.Demand3.{HonestEnough, byBytes}
+use Rattle.guarantee.specs.Demand3.{HonestEnough, byBytes, afterCalls}
 
 -- tables of bytes that meet the premise
 pub record BytesMeet : Type 0 where
@@ -24,6 +25,7 @@ pub record BytesMeet : Type 0 where
   -- and tables of weights, with fewer honest peers than t: four of them, and two
   pub carry-met : HonestEnough (carryTable 15)
   pub two-carry-met : HonestEnough (carryTable 3)
+  pub hold-met : HonestEnough (clashTable 3)
 
 -- a run of the engine on bytes: its answers, what a report of it lists, and the ideal board beside it, with each move
 -- allowed
@@ -31,6 +33,13 @@ pub record RunsTo (table : List ℕ) (w : Worked) (signers : List (ℕ × ℕ ×
     (receipts boards : List (ℕ × ℕ)) : Type 0 where
   pub ends : Ends (rulesTable table) (byBytes table) w signers receipts boards
   pub ideally : Ideally (rulesTable table) (byBytes table) w receipts boards true
+
+-- a run on a table whose honest peers weigh less than t: its answers and what a report of it lists, and that it is not
+-- safe
+pub record RunsUnsafe (table : List ℕ) (w : Worked) (signers : List (ℕ × ℕ × ℕ × ℕ))
+    (receipts boards : List (ℕ × ℕ)) : Type 0 where
+  pub ends : Ends (rulesTable table) (byBytes table) w signers receipts boards
+  pub unsafe : Safe (rulesTable table) (afterCalls table) (calls w) → ⊥
 
 pub record BytesRun : Type 0 where
   -- document 01's case R, on its fifteen-byte table
@@ -50,3 +59,9 @@ pub record BytesRun : Type 0 where
   pub weights-carry : RunsTo (carryTable 15) weightsCarry
       ((1, 0, 0, 2) ∷ (2, 0, 0, 2) ∷ (2, 0, 1, 3) ∷ (3, 0, 0, 2) ∷ (3, 0, 1, 3) ∷ (4, 0, 0, 2) ∷ (4, 0, 1, 3) ∷ [])
       ((0, 0) ∷ []) ((0, 1) ∷ [])
+  -- two of four heads that weigh t are enough: of two clashing votes one is receipted and published
+  pub weights-hold : RunsTo (clashTable 3) weightsHold ((1, 0, 0, 2) ∷ (2, 0, 0, 2) ∷ (2, 0, 1, 3) ∷ [])
+      ((0, 0) ∷ []) ((0, 1) ∷ [])
+  -- three of four that weigh less are not: both are receipted
+  pub weights-lie : RunsUnsafe (clashTable 14) weightsLie ((2, 0, 0, 2) ∷ (3, 0, 1, 2) ∷ [])
+      ((0, 0) ∷ (0, 1) ∷ []) []

@@ -2,3 +2,4 @@ pub mod Shrunk
 pub mod Uncut
 pub mod Left
 pub mod Worked
+pub mod Seasons
