@@ -26,21 +26,23 @@ use Rattle.liveness.specs.Union.{unionOf}
 use Rattle.liveness.specs.Schedule.{schedule, Room}
 use Rattle.liveness.proofs.Places.{ruled}
 use Rattle.closes.specs.Plan.{everyPlace, Planned}
-use Rattle.closes.specs.Runs.{table2, earlier2, later2, plan2, inTurn2, table4, earlier4, later4, plan4, byOthers4, planByOthers4}
+use Rattle.closes.specs.Runs.{table2, earlier2, later2, plan2, inTurn2, table4, earlier4, later4, plan4, byOthers4, planByOthers4, tableW, earlierW, laterW, planW}
 use Rattle.closes.specs.Needed.{Needed}
-use Rattle.closes.specs.Worked.{Ends}
+use Rattle.closes.specs.Worked.{Ends, WeightsDecide}
 
 pub record Computed : Type 0 where
-  pub two-planned : Planned (rulesTable table2) 0 plan2 earlier2 later2
+  pub two-planned : Planned (rulesTable table2) 0 plan2 (ruled (rulesTable table2) .held earlier2) later2
   pub two-ends : Ends (rulesTable table2) (ruled (rulesTable table2)) earlier2 later2 (written (Publish 2))
   pub two-scheduled : schedule (rulesTable table2) (ruled (rulesTable table2)) earlier2 0 ≡ inTurn2
   pub two-room : Room (rulesTable table2) (ruled (rulesTable table2) .held earlier2)
   pub two-in-turn-ends : Ends (rulesTable table2) (ruled (rulesTable table2)) earlier2 inTurn2 (written (Publish 2))
   pub two-needed : Needed (ruled (rulesTable table2))
-  pub four-planned : Planned (rulesTable table4) 0 plan4 earlier4 later4
+  pub four-planned : Planned (rulesTable table4) 0 plan4 (ruled (rulesTable table4) .held earlier4) later4
   pub four-ends : Ends (rulesTable table4) (ruled (rulesTable table4)) earlier4 later4 (written (Publish 9))
-  pub by-others-planned : Planned (rulesTable table4) 0 planByOthers4 earlier4 byOthers4
+  pub by-others-planned : Planned (rulesTable table4) 0 planByOthers4 (ruled (rulesTable table4) .held earlier4) byOthers4
   pub by-others-ends : Ends (rulesTable table4) (ruled (rulesTable table4)) earlier4 byOthers4 (written (Publish 4))
+  pub weights-planned : Planned (rulesTable tableW) 1 planW (ruled (rulesTable tableW) .held earlierW) laterW
+  pub weights-decide : WeightsDecide (ruled (rulesTable tableW))
 
 pub computed : Computed
 unfolding headerSize fieldOf weightIn peersWith weightOf first any every bit member pack numberAt part sameBytes readItem readKind
@@ -58,4 +60,6 @@ computed = record {
   four-ends = search;
   by-others-planned = search;
   by-others-ends = search;
+  weights-planned = search;
+  weights-decide = search;
 }

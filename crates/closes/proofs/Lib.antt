@@ -1,3 +1,4 @@
 pub mod Plan
 pub mod Computed
 pub mod Worked
+pub mod Lent

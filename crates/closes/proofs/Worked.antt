@@ -21,13 +21,13 @@ use Rattle.liveness.specs.Places.{Behaviour}
 use Rattle.liveness.specs.Close.{Closed, Close}
 use Rattle.liveness.specs.InTurn.{CloseInTurn}
 use Rattle.liveness.specs.Schedule.{Room, schedule}
-use Rattle.liveness.proofs.Places.{ruled, as-rules}
+use Rattle.liveness.proofs.Places.{ruled, as-rules, obeys}
 use Rattle.guarantee.specs.Liveness.{NoneDishonest, onBytes}
 use Rattle.guarantee.proofs.Demand3.{bytes-follow}
 use Rattle.guarantee.proofs.Liveness.{boards-come}
-use Rattle.closes.specs.Runs.{table2, earlier2, later2, plan2, inTurn2, table4, earlier4, later4, plan4, byOthers4, planByOthers4}
+use Rattle.closes.specs.Runs.{table2, earlier2, later2, plan2, inTurn2, table4, earlier4, later4, plan4, byOthers4, planByOthers4, tableW, earlierW, laterW, planW}
 use Rattle.closes.specs.Needed.{Needed}
-use Rattle.closes.specs.Worked.{Ends, ClosesWorked}
+use Rattle.closes.specs.Worked.{Ends, WeightsDecide, ClosesWorked}
 use Rattle.closes.proofs.Plan.{is-close}
 use Rattle.closes.proofs.Computed.{computed}
 
@@ -37,11 +37,15 @@ T2 = rulesTable table2
 abbrev T4 : Table
 T4 = rulesTable table4
 
+abbrev TW : Table
+TW = rulesTable tableW
+
 pub record Honest : Type 0 where
   pub two : NoneDishonest table2
   pub four : NoneDishonest table4
+  pub weighed : NoneDishonest tableW
 
-honest : Honest
+pub honest : Honest
 unfolding refusal headerOk headerSize fieldOf weightIn weightsOk fieldsOk thresholdOk leastThreshold tablePairsOk pairsOk pairsFit
     startsAtEnd endBefore itemBelow itemsOk allItems itemAt isItem noTwins twinless newAt differ readItem readKind first every numberAt
     part sameBytes bit member pack weight peersWith weightOf
@@ -54,7 +58,7 @@ on-bytes {table} P N = subst P (sym (as-rules (bytes-follow table (N .taken))))
 pub closes-worked : ClosesWorked
 closes-worked = record {
   two-honest = honest .two;
-  two-close = on-bytes (λ E. Close T2 E earlier2 later2 0) (honest .two) (is-close T2 0 plan2 earlier2 later2 (computed .two-planned));
+  two-close = on-bytes (λ E. Close T2 E earlier2 later2 0) (honest .two) (is-close (obeys T2) 0 plan2 earlier2 later2 (computed .two-planned));
   two-ends = on-bytes (λ E. Ends T2 E earlier2 later2 (written (Publish 2))) (honest .two) (computed .two-ends);
   two-room = room;
   two-scheduled = scheduled;
@@ -62,11 +66,15 @@ closes-worked = record {
       (boards-come table2 (honest .two) .can-close .closes earlier2 0 closed room);
   two-in-turn-ends = on-bytes (λ E. Ends T2 E earlier2 inTurn2 (written (Publish 2))) (honest .two) (computed .two-in-turn-ends);
   four-honest = honest .four;
-  four-close = on-bytes (λ E. Close T4 E earlier4 later4 0) (honest .four) (is-close T4 0 plan4 earlier4 later4 (computed .four-planned));
+  four-close = on-bytes (λ E. Close T4 E earlier4 later4 0) (honest .four) (is-close (obeys T4) 0 plan4 earlier4 later4 (computed .four-planned));
   four-ends = on-bytes (λ E. Ends T4 E earlier4 later4 (written (Publish 9))) (honest .four) (computed .four-ends);
   by-others-close = on-bytes (λ E. Close T4 E earlier4 byOthers4 0) (honest .four)
-      (is-close T4 0 planByOthers4 earlier4 byOthers4 (computed .by-others-planned));
+      (is-close (obeys T4) 0 planByOthers4 earlier4 byOthers4 (computed .by-others-planned));
   by-others-ends = on-bytes (λ E. Ends T4 E earlier4 byOthers4 (written (Publish 4))) (honest .four) (computed .by-others-ends);
+  weights-honest = honest .weighed;
+  weights-close = on-bytes (λ E. Close TW E earlierW laterW 1) (honest .weighed)
+      (is-close (obeys TW) 1 planW earlierW laterW (computed .weights-planned));
+  weights-decide = on-bytes WeightsDecide (honest .weighed) (computed .weights-decide);
   two-needed = on-bytes Needed (honest .two) (computed .two-needed);
 }
   where
@@ -78,4 +86,4 @@ closes-worked = record {
 
     closed : Closed T2 (onBytes table2 .held earlier2) 0
     closed = on-bytes (λ E. Closed T2 (E .held earlier2) 0) (honest .two)
-        (is-close T2 0 plan2 earlier2 later2 (computed .two-planned) .closed)
+        (is-close (obeys T2) 0 plan2 earlier2 later2 (computed .two-planned) .closed)

@@ -2,3 +2,4 @@ pub mod Plan
 pub mod Runs
 pub mod Needed
 pub mod Worked
+pub mod Lent

@@ -17,12 +17,10 @@ use Rattle.rules.specs.State.{State}
 use Rattle.rules.specs.Fields.{Fields, of, fields}
 use Rattle.rules.specs.Form.{read}
 use Rattle.rules.specs.Rules.{reply, leave, boardBy}
-use Rattle.rules.specs.Run.{run}
 use Rattle.form.specs.Written.{written}
 use Rattle.liveness.specs.Places.{callAt}
 
--- whose hashes each hears, the places of the exchange, the number that j names for k's hash, and the board of every
--- hash
+-- whose hashes each hears, the places of the exchange, the number that j names for k's hash, and the board of k's hash
 pub record Plan : Type 0 where
   pub listens : ℕ → ℕ → Bool
   pub fetchAt : ℕ → ℕ → ℕ
@@ -30,7 +28,7 @@ pub record Plan : Type 0 where
   pub hearAt : ℕ → ℕ → ℕ
   pub entry : ℕ → ℕ → ℕ
   pub backAt : ℕ → ℕ
-  pub board : ℕ
+  pub board : ℕ → ℕ
 
 -- the fields of what a call says; bytes that are no step have none
 abbrev pub saidIn : Call → Fields
@@ -49,10 +47,8 @@ unfoldable pub everyPlace : Table → (ℕ → State → Call → Bool) → ℕ 
 everyPlace T f i s [] = true
 everyPlace T f i s (c ∷ rest) = f i s (read c) && everyPlace T f (suc i) (leave T s (read c)) rest
 
-module _ (T : Table) (p : ℕ) (P : Plan) (earlier later : List (List ℕ)) where
-  abbrev begin : State
-  begin = run T earlier .engine
-
+-- the calls `later`, from the state `begin` on
+module _ (T : Table) (p : ℕ) (P : Plan) (begin : State) (later : List (List ℕ)) where
   -- the step stands at place i
   abbrev pub standsAt : ℕ → Step → Bool
   standsAt i st = sameBytes (callAt later i) (written st)
@@ -64,12 +60,12 @@ module _ (T : Table) (p : ℕ) (P : Plan) (earlier later : List (List ℕ)) wher
 
   -- where k sends its hash, its board is the plan's
   abbrev pub boardSent : ℕ → State → Call → Bool
-  boardSent i s c = peers T (λ k. not (eqb i (P .hashAt k)) || eqb (boardBy T s k p) (P .board))
+  boardSent i s c = peers T (λ k. not (eqb i (P .hashAt k)) || eqb (boardBy T s k p) (P .board k))
 
   -- where j hears k, the entry that it names is that hash
   abbrev pub hashHeard : ℕ → State → Call → Bool
   hashHeard i s c = pairs T (λ j k. not (P .listens j k && eqb i (P .hearAt j k))
-      || sameEntry (entryAt (s .bag) (P .entry j k)) (Hash k p (P .board)))
+      || sameEntry (entryAt (s .bag) (P .entry j k)) (Hash k p (P .board k)))
 
   pub record Planned : Type 0 where
     pub up : peers T (λ k. not (begin .down k)) ≡ true
@@ -89,3 +85,16 @@ module _ (T : Table) (p : ℕ) (P : Plan) (earlier later : List (List ℕ)) wher
     pub none-early : everyPlace T lateEnough 0 begin later ≡ true
     pub none-down : everyPlace T (λ i s c. not (eqb (saidIn c .op) 17)) 0 begin later ≡ true
     pub never-full : everyPlace T (λ i s c. not (eqb (reply T s c) 13)) 0 begin later ≡ true
+
+  -- the tests of document 02's own order, in which each hears all hashes
+
+  -- a back that is accepted comes after all fetches
+  abbrev pub lastEnough : ℕ → State → Call → Bool
+  lastEnough i s c = not (eqb (saidIn c .op) 11 && eqb (reply T s c) 0) || pairs T (λ j k. eqb j k || ltb (P .fetchAt j k) i)
+
+  pub record InTurnPlanned : Type 0 where
+    pub all-heard : pairs T (λ j k. P .listens j k) ≡ true
+    pub fetches-first : peers T (λ i. pairs T (λ j k. eqb j k || ltb (P .fetchAt j k) (P .hashAt i))) ≡ true
+    pub hashes-first : peers T (λ i. pairs T (λ j k. ltb (P .hashAt i) (P .hearAt j k))) ≡ true
+    pub hears-first : peers T (λ i. pairs T (λ j k. ltb (P .hearAt j k) (P .backAt i))) ≡ true
+    pub all-before : everyPlace T lastEnough 0 begin later ≡ true

@@ -2,11 +2,12 @@
 use Prim.Native.Nat.{ℕ, _+_, _-_, _*_}
 use mathlib.Core.Bool.{cond, not}
 use mathlib.Core.List.{List, [], _∷_, _++_}
-use lib.Dec.{eqb, ltb}
+use lib.Dec.{eqb, leb, ltb}
 use lib.ListN.{getD}
 use Rattle.rules.specs.declared.Step.the-variants.{Post, Hand, Sign, Take, Receipt, Close, Fetch, SendHash, Hear, Back, Publish}
 use Rattle.form.specs.Written.{written}
 use Rattle.edges.specs.Tables.{votesOver}
+use Rattle.edges.specs.Weighted.{carryTable}
 use Rattle.liveness.specs.InTurn.{everyone}
 use Rattle.liveness.specs.Schedule.{forPeers, forOthers, fetchAndHash}
 use Rattle.closes.specs.Plan.{Plan}
@@ -65,7 +66,7 @@ plan2 = record {
   hearAt = among ((8 ∷ 9 ∷ []) ∷ (11 ∷ 13 ∷ []) ∷ []);
   entry = λ j k. at (0 ∷ 1 ∷ []) k;
   backAt = at (10 ∷ 14 ∷ []);
-  board = 1;
+  board = λ k. 1;
 }
 
 -- the exchange in document 02's order, as `schedule` has it
@@ -168,7 +169,7 @@ plan4 = record {
       ((24 ∷ 25 ∷ 26 ∷ 27 ∷ []) ∷ (30 ∷ 31 ∷ 32 ∷ 33 ∷ []) ∷ (36 ∷ 37 ∷ 39 ∷ 40 ∷ []) ∷ (42 ∷ 43 ∷ 44 ∷ 46 ∷ []) ∷ []);
   entry = λ j k. at (1 ∷ 2 ∷ 3 ∷ 4 ∷ []) k;
   backAt = at (28 ∷ 35 ∷ 41 ∷ 47 ∷ []);
-  board = 1;
+  board = λ k. 1;
 }
 
 -- The same four in document 02's order, but that each hears the three others and not itself: they are a quorum.
@@ -187,5 +188,54 @@ planByOthers4 = record {
   hearAt = λ j k. 16 + among12 j k;
   entry = λ j k. k - 1;
   backAt = λ j. 28 + (j - 1);
-  board = 1;
+  board = λ k. 1;
 }
+
+-- Four peers of weights 4, 1, 1 and 1, of which a weight of 5 is needed, and their second period, after the close of the
+-- first, whose board is empty. Item 0 has the signatures of peers 1 and 2, item 1 those of peers 2, 3 and 4.
+abbrev pub tableW : List ℕ
+tableW = carryTable 15
+
+abbrev pub earlierW : List (List ℕ)
+earlierW =
+    written (Post 0)
+    ∷ written (Post 1)
+    ∷ (forPeers 4 Close
+    ++ (forPeers 4 (λ j. SendHash j 0)  -- entries 0 to 3
+    ++ (forPeers 4 (λ j. Hear j 0)
+    ++ (forPeers 4 (λ j. Hear j 1)
+    ++ (forPeers 4 Back  -- entries 4 to 7
+    ++ (written (Hand 1 0)
+    ∷ written (Hand 2 0)
+    ∷ written (Hand 2 1)
+    ∷ written (Hand 3 1)
+    ∷ written (Hand 4 1)
+    ∷ written (Sign 1 0)
+    ∷ written (Sign 2 0)
+    ∷ written (Sign 2 1)
+    ∷ written (Sign 3 1)
+    ∷ written (Sign 4 1)
+    ∷ forPeers 4 Close))))))
+
+-- each hears the hashes of peers 1 and 2 alone, which weigh 5
+abbrev pub laterW : List (List ℕ)
+laterW =
+    fetchAndHash 4 1  -- the hashes are entries 8 to 11
+    ++ (forPeers 4 (λ j. Hear j 8)
+    ++ (forPeers 4 (λ j. Hear j 9)
+    ++ forPeers 4 Back))  -- entries 12 to 15
+
+abbrev pub planW : Plan
+planW = record {
+  listens = λ j k. leb k 2;
+  fetchAt = among12;
+  hashAt = λ j. 12 + (j - 1);
+  hearAt = λ j k. 16 + 4 * (k - 1) + (j - 1);
+  entry = λ j k. 8 + (k - 1);
+  backAt = λ j. 24 + (j - 1);
+  board = λ k. 1;
+}
+
+-- peer 2 hears the hashes of peers 2, 3 and 4, which weigh 3
+abbrev pub lightW : List (List ℕ)
+lightW = fetchAndHash 4 1 ++ (written (Hear 2 9) ∷ written (Hear 2 10) ∷ written (Hear 2 11) ∷ [])
