@@ -31,7 +31,7 @@ use Rattle.liveness.specs.Close.{Closed, Exchange, BacksAt, InOrder, Close}
 use Rattle.liveness.specs.InTurn.{InTurn, CloseInTurn, everyone}
 use Rattle.liveness.specs.Lent.{NoTakes}
 use Rattle.liveness.proofs.Places.{Obeys, in-list}
-use Rattle.closes.specs.Plan.{Plan, saidIn, peers, pairs, everyPlace, standsAt, lateEnough, boardSent, hashHeard, Planned, lastEnough, InTurnPlanned}
+use Rattle.closes.specs.Plan.{Plan, saidIn, peers, pairs, everyPlace, standsAt, whereBacked, lateEnough, boardSent, hashHeard, Planned, lastEnough, InTurnPlanned}
 
 -- a test for all but the pairs of one peer
 other : (j k : ℕ) (b : Bool) → eqb j k || b ≡ true → (j ≡ k → ⊥) → b ≡ true
@@ -115,7 +115,8 @@ module _ {T : Table} {E : Behaviour} (O : Obeys T E) (p : ℕ) (P : Plan) (earli
       let all = passed O (boardSent T p P begin later) earlier later (K .sent) i (in-list later i (SendHash k p) (sends k h)) in
       eqb-true _ _ (imp-e (eqb i i) _ (of-peers T test all k h) (eqb-self i))
 
-  heard : (j k : ℕ) → Peer T j → Peer T k → P .listens j k ≡ true → entryAt (now (P .hearAt j k) .bag) (P .entry j k) ≡ Hash k p (P .board k)
+  heard : (j k : ℕ) → Peer T j → Peer T k → P .listens j k ≡ true
+      → entryAt (now (P .hearAt j k) .bag) (P .entry j k) ≡ Hash k p (P .board k)
   heard j k hj hk w =
       let i = P .hearAt j k in
       let test : ℕ → ℕ → Bool = λ j k. not (P .listens j k && eqb i (P .hearAt j k))
@@ -124,32 +125,44 @@ module _ {T : Table} {E : Behaviour} (O : Obeys T E) (p : ℕ) (P : Plan) (earli
       let all = passed O (hashHeard T p P begin later) earlier later (K .of-these) i within in
       bag.eq-of-same _ _ (imp-e (P .listens j k && eqb i i) _ (of-pairs T test all j k hj hk) (and-i _ _ w (eqb-self i)))
 
-  exchange : Exchange T E earlier later p (P .listens)
-  exchange = record {
+  -- the exchange, where each hears those that the plan says, or fewer
+  exchange-with : (listens : ℕ → ℕ → Bool) → ((j k : ℕ) → Peer T j → Peer T k → listens j k ≡ true → P .listens j k ≡ true)
+      → Exchange T E earlier later p listens
+  exchange-with listens planned = record {
     fetchAt = P .fetchAt;
     fetches = fetches;
     hashAt = P .hashAt;
     sends = sends;
     hearAt = P .hearAt;
     entry = P .entry;
-    hears = hears;
-    of-these = λ j k hj hk w. heard j k hj hk w ∙ sym (ap (Hash k p) (sent k hk));
+    hears = λ j k hj hk w. hears j k hj hk (planned j k hj hk w);
+    of-these = λ j k hj hk w. heard j k hj hk (planned j k hj hk w) ∙ sym (ap (Hash k p) (sent k hk));
     backAt = P .backAt;
     backs = backs;
   }
 
+  abbrev exchange : Exchange T E earlier later p (P .listens)
+  exchange = exchange-with (P .listens) (λ j k hj hk w. w)
+
   -- the order
+
+  -- a back that is accepted passes the test
+  at-back : (f : ℕ → ℕ → Bool) → everyPlace T (whereBacked T p P begin later f) 0 begin later ≡ true
+      → (i j : ℕ) → BacksAt T E earlier later p i j → f j i ≡ true
+  at-back f every-back i j b =
+      let all = passed O (whereBacked T p P begin later f) earlier later every-back i (in-list later i (Back j) (b .called)) in
+      let here = subst (λ (c : Call). whereBacked T p P begin later f i (now i) c ≡ true) (b .called) all in
+      let said = sym (O .answers (earlier ++ take i later) (callAt later i)) ∙ b .taken in
+      let zero = subst (λ (c : Call). reply T (now i) c ≡ 0) (b .called) said in
+      imp-e (eqb 11 11 && eqb (reply T (now i) (Formed (Back j))) 0) _ here (and-i _ _ refl (eq-eqb _ 0 zero))
 
   late : (j k : ℕ) → Peer T j → Peer T k → (j ≡ k → ⊥) → (i : ℕ) → BacksAt T E earlier later p i j → P .fetchAt j k < i
   late j k hj hk d i b =
-      let all = passed O (lateEnough T p P begin later) earlier later (K .none-early) i (in-list later i (Back j) (b .called)) in
-      let here = subst (λ (c : Call). lateEnough T p P begin later i (now i) c ≡ true) (b .called) all in
-      let zero = subst (λ (c : Call). reply T (now i) c ≡ 0) (b .called) (sym (O .answers (earlier ++ take i later) (callAt later i)) ∙ b .taken) in
-      let after = imp-e (eqb 11 11 && eqb (reply T (now i) (Formed (Back j))) 0) _ here (and-i _ _ refl (eq-eqb _ 0 zero)) in
+      let after = at-back (lateEnough T p P begin later) (K .none-early) i j b in
       ltb-true _ _ (other j k _ (of-peers T (λ k. eqb j k || ltb (P .fetchAt j k) i) after k hk) d)
 
   in-order : InOrder T E earlier later p exchange
-  unfolding exchange
+  unfolding exchange-with
   in-order = record {
     fetch-first = λ j k hj hk d. ltb-true _ _
         (other j k _ (of-pairs T (λ j k. eqb j k || ltb (P .fetchAt j k) (P .hashAt j)) (K .fetch-first) j k hj hk) d);
@@ -190,30 +203,17 @@ module _ {T : Table} {E : Behaviour} (O : Obeys T E) (p : ℕ) (P : Plan) (earli
     listened : (j k : ℕ) → Peer T j → Peer T k → P .listens j k ≡ true
     listened = of-pairs T (λ j k. P .listens j k) (L .all-heard)
 
-    hear-all : Exchange T E earlier later p everyone
-    hear-all = record {
-      fetchAt = P .fetchAt;
-      fetches = fetches;
-      hashAt = P .hashAt;
-      sends = sends;
-      hearAt = P .hearAt;
-      entry = P .entry;
-      hears = λ j k hj hk w. hears j k hj hk (listened j k hj hk);
-      of-these = λ j k hj hk w. heard j k hj hk (listened j k hj hk) ∙ sym (ap (Hash k p) (sent k hk));
-      backAt = P .backAt;
-      backs = backs;
-    }
+    abbrev hear-all : Exchange T E earlier later p everyone
+    hear-all = exchange-with everyone (λ j k hj hk w. listened j k hj hk)
 
-    last : (j k l : ℕ) → Peer T j → Peer T k → (j ≡ k → ⊥) → Peer T l → (i : ℕ) → BacksAt T E earlier later p i l → P .fetchAt j k < i
+    last : (j k l : ℕ) → Peer T j → Peer T k → (j ≡ k → ⊥) → Peer T l → (i : ℕ) → BacksAt T E earlier later p i l
+        → P .fetchAt j k < i
     last j k l hj hk d hl i b =
-        let all = passed O (lastEnough T p P begin later) earlier later (L .all-before) i (in-list later i (Back l) (b .called)) in
-        let here = subst (λ (c : Call). lastEnough T p P begin later i (now i) c ≡ true) (b .called) all in
-        let zero = subst (λ (c : Call). reply T (now i) c ≡ 0) (b .called) (sym (O .answers (earlier ++ take i later) (callAt later i)) ∙ b .taken) in
-        let after = imp-e (eqb 11 11 && eqb (reply T (now i) (Formed (Back l))) 0) _ here (and-i _ _ refl (eq-eqb _ 0 zero)) in
+        let after = at-back (lastEnough T p P begin later) (L .all-before) i l b in
         ltb-true _ _ (other j k _ (of-pairs T (λ j k. eqb j k || ltb (P .fetchAt j k) i) after j k hj hk) d)
 
     in-turn : InTurn T E earlier later p hear-all
-    unfolding hear-all
+    unfolding exchange-with
     in-turn = record {
       fetches-first = λ j k i hj hk d hi. ltb-true _ _ (other j k _ (of-pairs T (λ j k. eqb j k || ltb (P .fetchAt j k) (P .hashAt i))
           (of-peers T (λ i. pairs T (λ j k. eqb j k || ltb (P .fetchAt j k) (P .hashAt i))) (L .fetches-first) i hi) j k hj hk) d);

@@ -58,7 +58,8 @@ on-bytes {table} P N = subst P (sym (as-rules (bytes-follow table (N .taken))))
 pub closes-worked : ClosesWorked
 closes-worked = record {
   two-honest = honest .two;
-  two-close = on-bytes (λ E. Close T2 E earlier2 later2 0) (honest .two) (is-close (obeys T2) 0 plan2 earlier2 later2 (computed .two-planned));
+  two-close = on-bytes (λ E. Close T2 E earlier2 later2 0) (honest .two)
+      (is-close (obeys T2) 0 plan2 earlier2 later2 (computed .two-planned));
   two-ends = on-bytes (λ E. Ends T2 E earlier2 later2 (written (Publish 2))) (honest .two) (computed .two-ends);
   two-room = room;
   two-scheduled = scheduled;
@@ -66,7 +67,8 @@ closes-worked = record {
       (boards-come table2 (honest .two) .can-close .closes earlier2 0 closed room);
   two-in-turn-ends = on-bytes (λ E. Ends T2 E earlier2 inTurn2 (written (Publish 2))) (honest .two) (computed .two-in-turn-ends);
   four-honest = honest .four;
-  four-close = on-bytes (λ E. Close T4 E earlier4 later4 0) (honest .four) (is-close (obeys T4) 0 plan4 earlier4 later4 (computed .four-planned));
+  four-close = on-bytes (λ E. Close T4 E earlier4 later4 0) (honest .four)
+      (is-close (obeys T4) 0 plan4 earlier4 later4 (computed .four-planned));
   four-ends = on-bytes (λ E. Ends T4 E earlier4 later4 (written (Publish 9))) (honest .four) (computed .four-ends);
   by-others-close = on-bytes (λ E. Close T4 E earlier4 byOthers4 0) (honest .four)
       (is-close (obeys T4) 0 planByOthers4 earlier4 byOthers4 (computed .by-others-planned));

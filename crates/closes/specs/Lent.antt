@@ -76,8 +76,8 @@ planTakes = record {
   board = at (1 ∷ 0 ∷ []);
 }
 
--- each database has its peer's signature on item 0; the bag has backings and a board of item 1, and a hash of both items
--- that peer 1 heard
+-- each database has its peer's signature on item 0; the bag has backings and a board of item 1, and a hash of both
+-- items that peer 1 heard
 abbrev pub knownApart : Fact → Bool
 knownApart (Posted i) = eqb i 0
 knownApart (Signed k p i) = false

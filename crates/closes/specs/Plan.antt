@@ -53,10 +53,13 @@ module _ (T : Table) (p : ℕ) (P : Plan) (begin : State) (later : List (List �
   abbrev pub standsAt : ℕ → Step → Bool
   standsAt i st = sameBytes (callAt later i) (written st)
 
-  -- a back that is accepted comes after its peer's fetches
-  abbrev pub lateEnough : ℕ → State → Call → Bool
-  lateEnough i s c = let j = saidIn c .peer in
-      not (eqb (saidIn c .op) 11 && eqb (reply T s c) 0) || peers T (λ k. eqb j k || ltb (P .fetchAt j k) i)
+  -- a back that is accepted passes a test of its peer and its place
+  abbrev pub whereBacked : (ℕ → ℕ → Bool) → ℕ → State → Call → Bool
+  whereBacked f i s c = not (eqb (saidIn c .op) 11 && eqb (reply T s c) 0) || f (saidIn c .peer) i
+
+  -- it comes after its peer's fetches
+  abbrev pub lateEnough : ℕ → ℕ → Bool
+  lateEnough j i = peers T (λ k. eqb j k || ltb (P .fetchAt j k) i)
 
   -- where k sends its hash, its board is the plan's
   abbrev pub boardSent : ℕ → State → Call → Bool
@@ -82,19 +85,19 @@ module _ (T : Table) (p : ℕ) (P : Plan) (begin : State) (later : List (List �
     pub back-last : pairs T (λ j k. eqb j k || (P .listens j j || ltb (P .fetchAt j k) (P .backAt j))) ≡ true
     pub sent : everyPlace T boardSent 0 begin later ≡ true
     pub of-these : everyPlace T hashHeard 0 begin later ≡ true
-    pub none-early : everyPlace T lateEnough 0 begin later ≡ true
+    pub none-early : everyPlace T (whereBacked lateEnough) 0 begin later ≡ true
     pub none-down : everyPlace T (λ i s c. not (eqb (saidIn c .op) 17)) 0 begin later ≡ true
     pub never-full : everyPlace T (λ i s c. not (eqb (reply T s c) 13)) 0 begin later ≡ true
 
   -- the tests of document 02's own order, in which each hears all hashes
 
   -- a back that is accepted comes after all fetches
-  abbrev pub lastEnough : ℕ → State → Call → Bool
-  lastEnough i s c = not (eqb (saidIn c .op) 11 && eqb (reply T s c) 0) || pairs T (λ j k. eqb j k || ltb (P .fetchAt j k) i)
+  abbrev pub lastEnough : ℕ → ℕ → Bool
+  lastEnough l i = pairs T (λ j k. eqb j k || ltb (P .fetchAt j k) i)
 
   pub record InTurnPlanned : Type 0 where
     pub all-heard : pairs T (λ j k. P .listens j k) ≡ true
     pub fetches-first : peers T (λ i. pairs T (λ j k. eqb j k || ltb (P .fetchAt j k) (P .hashAt i))) ≡ true
     pub hashes-first : peers T (λ i. pairs T (λ j k. ltb (P .hashAt i) (P .hearAt j k))) ≡ true
     pub hears-first : peers T (λ i. pairs T (λ j k. ltb (P .hearAt j k) (P .backAt i))) ≡ true
-    pub all-before : everyPlace T lastEnough 0 begin later ≡ true
+    pub all-before : everyPlace T (whereBacked lastEnough) 0 begin later ≡ true

@@ -29,8 +29,8 @@ pub record Ends (T : Table) (E : Behaviour) (earlier later : List (List ℕ)) (p
   pub answer : E .answers (earlier ++ later) publish ≡ 0
   pub boards : boardsIn (E .held ((earlier ++ later) ++ (publish ∷ [])) .bag) ≡ (0, 1) ∷ []
 
--- A close of period 1 in which heads and weights decide differently: item 1 has three signers and is on no board, item 0
--- has two and is, and two backers that weigh t are enough where three are not.
+-- A close of period 1 in which heads and weights decide differently: item 1 has three signers and is on no board, item
+-- 0 has two and is, and two backers that weigh t are enough where three are not.
 pub record WeightsDecide (E : Behaviour) : Type 0 where
   pub two-heads : weight ones 4 (union (rulesTable tableW) (E .held earlierW) 1 0) ≡ 2
   pub three-heads : weight ones 4 (union (rulesTable tableW) (E .held earlierW) 1 1) ≡ 3

@@ -18,7 +18,7 @@ use Rattle.base.proofs.Below.{every-ext, every-of}
 use Rattle.base.proofs.Bits.{pack-ext}
 use Rattle.base.proofs.Bytes.{between-true}
 use Rattle.base.proofs.Refusals.{passed}
-use Rattle.base.proofs.Truth.{either, and-false}
+use Rattle.base.proofs.Truth.{either, and-l, and-false}
 use Rattle.base.proofs.Weight.{weight-same, count-all}
 use Rattle.header.specs.declared.season.Season.the-variants.{Second, Third}
 use Rattle.header.specs.declared.weights.Feature.{Feature}
@@ -29,7 +29,7 @@ use Rattle.header.specs.Header.{joined, headOf, weightOk, weightsOk, headerOk}
 use Rattle.header.proofs.Ranges.{peers-range}
 use Rattle.header.proofs.Seasons.{second-of, third-of, no-weights, for-each-peer, later-field, second-size, third-size}
 use Rattle.header.proofs.Weighing.{weight-byte, weight-none, total-counted, nobody-with}
-use Rattle.pairs.specs.Pairs.{textOf}
+use Rattle.pairs.specs.Pairs.{textOf, pairsOk}
 use Rattle.twins.specs.Twins.{differ, newAt, twinless}
 use Rattle.ballot.specs.declared.item.Audits.the-variants.{Placed}
 use Rattle.ballot.specs.Item.{isItem, itemAt, allItems}
@@ -86,8 +86,11 @@ module _ (s r : List ℕ) (R : SameButOnes s r) where
   same : (i : ℕ) → ltb i 6 ≡ true → fieldOf s i ≡ fieldOf r i
   same i l = field-s i ∙ R .fields i (ltb-true i 6 l) ∙ sym (field-r i)
 
-  items-s : itemsOf s ≡ m
+  pub items-s : itemsOf s ≡ m
   items-s = same 5 refl ∙ field-r 5
+
+  pub items-r : itemsOf r ≡ m
+  items-r = field-r 5
 
   none : weightCount r ≡ 0
   none = no-weights r (rw (← is-second))
@@ -135,7 +138,7 @@ module _ (s r : List ℕ) (R : SameButOnes s r) where
 
   -- the header
 
-  size-r : headerSize r ≡ 8
+  pub size-r : headerSize r ≡ 8
   size-r = second-size r is-second
 
   size-s : n ≤ 16 → headerSize s ≡ n + 8
@@ -144,7 +147,7 @@ module _ (s r : List ℕ) (R : SameButOnes s r) where
   whole : n ≤ 16 → leb (headerSize s) (length s) ≡ leb (headerSize r) (length r)
   whole few = rw (size-s few, size-r, R .rest .longer) (both-longer n 8 (length r))
 
-  header-same : headerOk s ≡ headerOk r
+  pub header-same : headerOk s ≡ headerOk r
   unfolding headerOk
   header-same = go (either (between 1 (peersOf s) 16))
     where
@@ -171,34 +174,34 @@ module _ (s r : List ℕ) (R : SameButOnes s r) where
   -- the pairs and the texts, where the header is right
 
   module _ (ok : headerOk r ≡ true) where
-    size : headerSize s ≡ n + 8
+    pub size : headerSize s ≡ n + 8
     size = size-s (omega (arith, peers-range r ok .1, same 0 refl, field-s 0))
 
     table-pairs : tablePairsOk s ≡ tablePairsOk r
     unfolding tablePairsOk
-    table-pairs = rw (size, items-s, size-r, field-r 5) (pairs-same (R .rest))
+    table-pairs = rw (size, items-s, size-r, items-r) (pairs-same (R .rest))
 
     module _ (right : tablePairsOk r ≡ true) where
       text-alike : (k : ℕ) → k < m → textOf s (n + 8) k ≡ textOf r 8 k
-      unfolding tablePairsOk
-      text-alike = text-same (R .rest) (rw (size-r, field-r 5) at right)
+      unfolding tablePairsOk pairsOk
+      text-alike = text-same (R .rest) (and-l _ _ (rw (size-r, items-r) at right))
 
       all-items : itemsOk s ≡ itemsOk r
       unfolding itemsOk allItems itemAt
       all-items =
-          rw (size, items-s, size-r, field-r 5, ← is-third, ← is-second)
+          rw (size, items-s, size-r, items-r, ← is-third, ← is-second)
           (every-ext m _ _ (λ k l. ap (isItem Placed) (text-alike k l)))
 
       all-new : noTwins s ≡ noTwins r
       unfolding noTwins twinless newAt differ
       all-new =
-          rw (size, items-s, size-r, field-r 5)
+          rw (size, items-s, size-r, items-r)
           (every-ext m _ _ (λ k l. every-ext k _ _ (λ i h.
           ap₂ (λ (a b : List ℕ). not (sameBytes a b)) (text-alike i (omega (arith, l, h))) (text-alike k l))))
 
       texts-alike : (k : ℕ) → itemText s k ≡ itemText r k
       unfolding itemBelow
-      texts-alike k = rw (size, items-s, size-r, field-r 5) (go (either (ltb k m)))
+      texts-alike k = rw (size, items-s, size-r, items-r) (go (either (ltb k m)))
         where
           go : (ltb k m ≡ true) ⊎ (ltb k m ≡ false) → cond (ltb k m) (textOf s (n + 8) k) [] ≡ cond (ltb k m) (textOf r 8 k) []
           go (inl e) = rw e (text-alike k (ltb-true k m e))

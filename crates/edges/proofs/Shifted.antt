@@ -13,7 +13,7 @@ use Rattle.base.specs.Below.{every}
 use Rattle.base.specs.Bytes.{part}
 use Rattle.base.proofs.Below.{every-ext}
 use Rattle.base.proofs.Truth.{either, iff, and-l}
-use Rattle.pairs.specs.Pairs.{offsetOf, sizeOf, firstOffset, endBefore, startsAtEnd, pairsFit, pairsOk, textOf}
+use Rattle.pairs.specs.Pairs.{offsetOf, sizeOf, firstOffset, endBefore, startsAtEnd, pairsFit, lastEnd, pairsOk, textOf}
 use Rattle.pairs.proofs.Texts.{starts-at}
 use Rattle.edges.specs.Weights.{Shifted}
 
@@ -48,32 +48,30 @@ module _ {s r : List ℕ} {d at m : ℕ} (R : Shifted s r d at m) where
       ap₂ leb {x = firstOffset (d + at) m} {y = d + start} (omega arith) (R .longer)
       ∙ both-longer d start (length r)
 
-  pub pairs-same : pairsOk s (d + at) m ≡ pairsOk r at m
-  unfolding pairsOk pairsFit startsAtEnd
-  pairs-same = go (either (leb start (length r)))
+  pub fit-same : pairsFit s (d + at) m ≡ pairsFit r at m
+  unfolding pairsFit startsAtEnd
+  fit-same = go (either (leb start (length r)))
     where
-      go : (leb start (length r) ≡ true) ⊎ (leb start (length r) ≡ false) → pairsOk s (d + at) m ≡ pairsOk r at m
+      go : (leb start (length r) ≡ true) ⊎ (leb start (length r) ≡ false) → pairsFit s (d + at) m ≡ pairsFit r at m
       go (inl e) =
           let there = leb-true start (length r) e in
           let starts = every-ext m (startsAtEnd s (d + at) m) (startsAtEnd r at m) (λ k l.
           ap₂ eqb (R .pairs there k l .0) (end-more there k (omega (arith, l)))
           ∙ both-more d (offsetOf r at k) (endBefore r at m k)) in
-          let ends = ap₂ eqb (end-more there m (omega arith)) (R .longer) ∙ both-more d (endBefore r at m m) (length r) in
-          rw (first-reached, starts, ends)
+          rw (first-reached, starts)
       go (inr e) = rw (first-reached, e)
 
-  -- pairs that are right
+  -- pairs that fit
 
-  module _ (right : pairsOk r at m ≡ true) where
-    fit : pairsFit r at m ≡ true
-    unfolding pairsOk
-    fit = and-l (pairsFit r at m) _ right
-
-    there : start ≤ length r
+  module _ (fit : pairsFit r at m ≡ true) where
+    pub pairs-there : start ≤ length r
     unfolding pairsFit
-    there = leb-true start (length r) (and-l _ (every m (startsAtEnd r at m)) fit)
+    pairs-there = leb-true start (length r) (and-l _ (every m (startsAtEnd r at m)) fit)
 
-    dropped : (o : ℕ) → start ≤ o → drop (d + o) s ≡ drop o r
+    pub last-more : lastEnd s (d + at) m ≡ d + lastEnd r at m
+    last-more = end-more pairs-there m (omega arith)
+
+    pub dropped : (o : ℕ) → start ≤ o → drop (d + o) s ≡ drop o r
     dropped o l =
         let more = o - start in
         ap (λ (i : ℕ). drop i s) {x = d + o} {y = d + start + more} (omega arith)
@@ -85,5 +83,13 @@ module _ {s r : List ℕ} {d at m : ℕ} (R : Shifted s r d at m) where
     pub text-same : (k : ℕ) → k < m → textOf s (d + at) k ≡ textOf r at k
     unfolding part
     text-same k l =
-        let pair = R .pairs there k l in
+        let pair = R .pairs pairs-there k l in
         rw (pair .0, pair .1) (ap (take (sizeOf r at k)) (dropped (offsetOf r at k) (after-pairs r at m fit k l)))
+
+  pub pairs-same : pairsOk s (d + at) m ≡ pairsOk r at m
+  unfolding pairsOk
+  pairs-same = go (either (pairsFit r at m))
+    where
+      go : (pairsFit r at m ≡ true) ⊎ (pairsFit r at m ≡ false) → pairsOk s (d + at) m ≡ pairsOk r at m
+      go (inl e) = rw (fit-same, e) (ap₂ eqb (last-more e) (R .longer) ∙ both-more d (lastEnd r at m) (length r))
+      go (inr e) = rw (fit-same, e)

@@ -1,5 +1,5 @@
--- A table of the third season that is taken and has no weight but 1 has one of the second beside it with the same fields
--- and items.
+-- Bytes of the third season whose header and pairs are right, and which have no weight but 1, have such of the second
+-- beside them, with the same fields, texts and whatever follows these.
 use Prim.Native.Nat.{ℕ, _+_, _-_, _*_, _/_, _%_, _≤_, _<_}
 use native.Mathlib.Omega.{arith}
 use mathlib.Core.Bool.{true, cond}
@@ -17,7 +17,7 @@ use Rattle.base.proofs.Tab.{length-tab, getD-tab}
 use Rattle.base.proofs.Truth.{and-i, and-l}
 use Rattle.header.specs.declared.season.Season.the-variants.{Third}
 use Rattle.header.specs.Season.{zeroThen, seasonOf}
-use Rattle.header.specs.Header.{headerSize, fieldOf, peersOf, weightCount, weightIn, headerOk}
+use Rattle.header.specs.Header.{headerSize, fieldOf, peersOf, itemsOf, weightCount, weightIn, headerOk}
 use Rattle.header.proofs.Ranges.{peers-range}
 use Rattle.header.proofs.Seasons.{third-of, for-each-peer, later-field, third-size}
 use Rattle.header.proofs.Weighing.{weight-byte}
@@ -27,8 +27,8 @@ use Rattle.ballot.specs.Table.{tablePairsOk, tableRefusals, refusal}
 use Rattle.edges.specs.Weights.{SameButOnes, pairByte, frontByte, unweighed}
 use Rattle.edges.proofs.Shifted.{after-pairs}
 
-module _ (s : List ℕ) (fit : refusal s ≡ 0) (third : zeroThen s 3 ≡ true)
-    (each-one : (k : ℕ) → 1 ≤ k → k ≤ peersOf s → weightIn s k ≡ 1) where
+module _ (s : List ℕ) (ok : headerOk s ≡ true) (fits : pairsFit s (headerSize s) (itemsOf s) ≡ true)
+    (third : zeroThen s 3 ≡ true) (each-one : (k : ℕ) → 1 ≤ k → k ≤ peersOf s → weightIn s k ≡ 1) where
   abbrev n : ℕ
   n = byteAt s 2
 
@@ -49,19 +49,14 @@ module _ (s : List ℕ) (fit : refusal s ≡ 0) (third : zeroThen s 3 ≡ true)
   field : (i : ℕ) → fieldOf s i ≡ byteAt s (2 + i)
   field = later-field s (rw (← is-third))
 
-  right : (headerOk s ≡ true) × (tablePairsOk s ≡ true)
-  unfolding refusal
-  right = let tests = passed (tableRefusals s) fit in (not-false (headerOk s) (tests .0), not-false (tablePairsOk s) (tests .1 .0))
-
   count : weightCount s ≡ n
-  count = for-each-peer s (rw (← is-third)) (peers-range s (right .0) .1) ∙ field 0
+  count = for-each-peer s (rw (← is-third)) (peers-range s ok .1) ∙ field 0
 
   size : headerSize s ≡ n + 8
   size = omega (arith, third-size s is-third, count)
 
   pairs-fit : pairsFit s (n + 8) m ≡ true
-  unfolding tablePairsOk pairsOk
-  pairs-fit = and-l _ _ (rw (size, field 5) at (right .1))
+  pairs-fit = rw (size, field 5) at fits
 
   reaches : n + front ≤ length s
   unfolding pairsFit
@@ -139,8 +134,8 @@ module _ (s : List ℕ) (fit : refusal s ≡ 0) (third : zeroThen s 3 ≡ true)
   items : byteAt r 7 ≡ m
   items = kept 7 (omega arith) (λ e. omega (arith, e))
 
-  pub unweighed-same : SameButOnes s r
-  unweighed-same = record {
+  pub unweighed-fits : SameButOnes s r
+  unweighed-fits = record {
     third = third;
     second = starts;
     fields = λ i l. sym (kept (2 + i) (omega (arith, l)) (λ e. omega (arith, e)));
@@ -151,3 +146,11 @@ module _ (s : List ℕ) (fit : refusal s ≡ 0) (third : zeroThen s 3 ≡ true)
       texts = sym (drop-at (tab front (frontByte s)) (drop (n + front) s) front long-front);
     });
   }
+
+-- so does a table that is taken
+pub unweighed-same : (s : List ℕ) → refusal s ≡ 0 → zeroThen s 3 ≡ true
+    → ((k : ℕ) → 1 ≤ k → k ≤ peersOf s → weightIn s k ≡ 1) → SameButOnes s (unweighed s)
+unfolding refusal tablePairsOk pairsOk
+unweighed-same s fit =
+    let tests = passed (tableRefusals s) fit in
+    unweighed-fits s (not-false (headerOk s) (tests .0)) (and-l _ _ (not-false (tablePairsOk s) (tests .1 .0)))

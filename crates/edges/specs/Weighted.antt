@@ -105,8 +105,8 @@ clashTable honest =
     third (4 ∷ 5 ∷ 0 ∷ honest ∷ 2 ∷ 2 ∷ 4 ∷ 1 ∷ 1 ∷ 1 ∷ 0 ∷ 20 ∷ 0 ∷ 6 ∷ 0 ∷ 26 ∷ 0 ∷ 6 ∷
     (vote (0 ∷ []) ++ vote (1 ∷ [])))
 
--- Peers 2, 3 and 4 are honest, three of four heads, and weigh 3. With peer 1, which weighs 4, each of two of them carries
--- one of the clashing votes to its receipt (weights-lie).
+-- Peers 2, 3 and 4 are honest, three of four heads, and weigh 3. With peer 1, which weighs 4, each of two of them
+-- carries one of the clashing votes to its receipt (weights-lie).
 abbrev pub weightsLie : Worked
 weightsLie =
     (bytes 1 0 0 0 0 0, 0)  -- post 0

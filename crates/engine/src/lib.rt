@@ -1,7 +1,7 @@
 // The engine: fresh and step, for any bytes. The table and the state are validated once for each call; the inner step
 // re-validates nothing.
-// It uses header to read the table, ballot to judge it, valid to judge the state, clash for what clashes, form to read a
-// step, and casting, closing and outsider to judge and do it.
+// It uses header to read the table, ballot to judge it, valid to judge the state, clash for what clashes, form to read
+// a step, and casting, closing and outsider to judge and do it.
 ghost use mathlib.Core.Path.{_≡_};
 ghost use lib.ListN.{length, replicate};
 ghost use Rattle.view.specs.Ready.{Ready};

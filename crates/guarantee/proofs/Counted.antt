@@ -52,7 +52,8 @@ module _ (table : List ℕ) (fit : refusal table ≡ 0) where
 
   honest-weighed : honestWeight (headOf table) ≡ weight (weightIn table) (peersOf table) (member (honestOf table))
   honest-weighed =
-      weight-same (weightOf (headOf table)) (weightIn table) (peersOf table) (isHonest (headOf table)) (λ k l m. sound table fit .weight-read k)
+      weight-same (weightOf (headOf table)) (weightIn table) (peersOf table) (isHonest (headOf table))
+      (λ k l m. sound table fit .weight-read k)
       ∙ ap (λ (set : ℕ). weight (weightIn table) (peersOf table) (member set)) honest-bits
 
   pub weighed-by-bytes : WeighedByBytes table

@@ -10,4 +10,6 @@ pub mod Worked
 pub mod Seasons
 pub mod SheetsWorked
 pub mod Lent
+pub mod Inputs
 pub mod Seeing
+pub mod Ones

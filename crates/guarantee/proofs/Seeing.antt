@@ -9,7 +9,6 @@ use mathlib.Core.Logic.{_⊎_, inl, inr}
 use mathlib.Core.Path.{_≡_, refl, sym, ap, ap₂, subst, fun-ext, _∙_}
 use lib.Dec.{eqb, leb, ltb}
 use lib.ListN.{length}
-use lib.Seq.{getD-take}
 use borrow.Author.Tests.{ne-eqb, eq-eqb, eqb-true, leb-true}
 use Rattle.base.specs.Bits.{bit}
 use Rattle.base.specs.Bytes.{byteAt, part}
@@ -20,7 +19,6 @@ use Rattle.header.specs.declared.Head.{Head}
 use Rattle.header.specs.Season.{zeroThen}
 use Rattle.header.specs.Header.{headerSize, itemsOf, headOf, headerOk, honestCount}
 use Rattle.pairs.specs.Pairs.{firstOffset, endBefore, pairsFit, lastEnd}
-use Rattle.pairs.proofs.Texts.{starts-at, text-ends}
 use Rattle.ballot.specs.Table.{refusal, itemText, tableRefusals}
 use Rattle.clash.specs.Clash.{clashIn}
 use Rattle.text.specs.Wrote.{each}
@@ -35,12 +33,10 @@ use Rattle.printing.specs.Board.{boardsOn, firstBoard, boardTexts}
 use Rattle.printing.specs.Written.{sheetFor, boardRefusals, writeAnswer, written, sheetLeft}
 use Rattle.edges.specs.Seasons.{Seen, AsBefore, Older, firstEngine, secondEngine, StartsWith0, StartsWith03}
 use Rattle.edges.specs.SecondSeason as two
-use Rattle.edges.specs.Weights.{SameButOnes, AsSecond}
 use Rattle.edges.proofs.Seasons.{season-edges}
-use Rattle.edges.proofs.AllOnes.{all-ones}
-use Rattle.guarantee.specs.Seasons.{answerSeeing, bytesSeeing, StepsAsSecond}
-use Rattle.guarantee.specs.Seeing.{thisEngine, freshSeeing, freshLeft, textsSeen, sheetSeeing, writeSeeing, writtenSeeing, sheetLeftSeeing, Looks, tableBy, looksBy, tableSeen, refusalSeen, countSeen, callSeen, stateSeen, lineSeen, reportSeen, lentSeen, reportedSeen, stateLeftSeen, OldCalls, OldEnginesCalls, CallsAsSecond, SameSteps, RehearsedAsSecond}
-use Rattle.guarantee.proofs.Seasons.{steps-as-second}
+use Rattle.guarantee.specs.Seasons.{answerSeeing, bytesSeeing}
+use Rattle.guarantee.specs.Seeing.{thisEngine, freshSeeing, freshLeft, textsSeen, sheetSeeing, writeSeeing, writtenSeeing, sheetLeftSeeing, Looks, tableBy, looksBy, tableSeen, refusalSeen, countSeen, callSeen, stateSeen, lineSeen, reportSeen, lentSeen, reportedSeen, stateLeftSeen, OldCalls, OldEnginesCalls}
+use Rattle.guarantee.proofs.Inputs.{end-most, byte-in}
 
 -- write_sheet
 
@@ -63,11 +59,11 @@ module _ (table s : List ℕ) (period : ℕ) where
       go (yes e) = first-passed (tableRefusals table) (boardRefusals table s period room) e ∙ rw e refl
       go (no n) = first-given (tableRefusals table) (boardRefusals table s period room) n ∙ rw (ne-eqb _ 0 n) refl
 
-  written-seen : (room : ℕ) → written table s period room ≡ writtenSeeing (refusal table) (headOf table) (itemText table) s period room
+  pub written-seen : (room : ℕ) → written table s period room ≡ writtenSeeing (refusal table) (headOf table) (itemText table) s period room
   unfolding written
   written-seen room = rw (write-seen room, sheet-seen)
 
-  left-seen : (buffer : List ℕ) → sheetLeft table s period buffer
+  pub left-seen : (buffer : List ℕ) → sheetLeft table s period buffer
       ≡ sheetLeftSeeing (refusal table) (headOf table) (itemText table) s period buffer
   unfolding sheetLeft
   left-seen buffer = rw (write-seen (length buffer), sheet-seen)
@@ -106,11 +102,11 @@ module _ (input : List ℕ) where
 -- fresh
 
 module _ (table s : List ℕ) {r : ℕ} (judged : refusal table ≡ r) where
-  fresh-answers : freshAnswer table s ≡ freshSeeing r s
+  pub fresh-answers : freshAnswer table s ≡ freshSeeing r s
   unfolding freshAnswer
   fresh-answers = ap (λ (r : ℕ). freshSeeing r s) judged
 
-  fresh-leaves : freshBytes table s ≡ freshLeft r s
+  pub fresh-leaves : freshBytes table s ≡ freshLeft r s
   unfolding freshBytes freshAnswer
   fresh-leaves = ap (λ (r : ℕ). freshLeft r s) judged
 
@@ -142,27 +138,10 @@ module _ (input s : List ℕ) (L M : Looks) (H : Halves L M) (none : tableSeen L
   leaves-none = rw (refused-alike .0, refused-alike .1, refused-alike .1)
 
 -- where it has one, the table starts as the input does
-module _ (input : List ℕ) (fit : pairsFit input (headerSize input) (itemsOf input) ≡ true) where
-  abbrev m : ℕ
-  m = itemsOf input
-
-  end-most : firstOffset (headerSize input) m ≤ tableEnd input
-  unfolding endBefore
-  end-most = go (ℕ-discrete m 0)
-    where
-      go : Dec (m ≡ 0) → firstOffset (headerSize input) m ≤ tableEnd input
-      go (yes e) = omega (arith, ap (endBefore input (headerSize input) m) {x = m} {y = 0} e)
-      go (no n) =
-          let starts = starts-at input (headerSize input) m fit 0 (omega arith) in
-          omega (arith, starts, text-ends input (headerSize input) m fit 0 (omega arith))
-
-  size-least : 6 ≤ headerSize input
-  unfolding headerSize
-  size-least = omega arith
-
-  starts-alike : (i : ℕ) → i < 6 → byteAt (tableBy thisEngine input) i ≡ byteAt input i
-  unfolding part
-  starts-alike i l = getD-take (tableEnd input) input i 0 (omega (arith, end-most, size-least))
+starts-alike : (input : List ℕ) → pairsFit input (headerSize input) (itemsOf input) ≡ true → (i : ℕ) → i < 6
+    → byteAt (tableBy thisEngine input) i ≡ byteAt input i
+unfolding headerSize tableIn
+starts-alike input fit i l = byte-in input i (omega (arith, l, end-most input fit))
 
 module _ {old : Seen} {Newer : List ℕ → Type 0} (O : Older old Newer)
     (by-start : (a b : List ℕ) → byteAt a 0 ≡ byteAt b 0 → byteAt a 1 ≡ byteAt b 1 → Newer a → Newer b)
@@ -261,89 +240,3 @@ old-engines-calls = record {
   first = old-calls (season-edges .first) (λ a b e u n. sym e ∙ n) no-first-header;
   second = old-calls (season-edges .second) (λ a b e u n. ap₂ (λ (x y : ℕ). eqb x 0 && eqb y 3) (sym e) (sym u) ∙ n) no-second-header;
 }
-
--- weights that are all 1: a table that is refused is answered with its refusal
-
-module _ (table s : List ℕ) (period r : ℕ) (e : refusal table ≡ r) (n : r ≡ 0 → ⊥) where
-  refused-seeing : (room : ℕ) → writtenSeeing (refusal table) (headOf table) (itemText table) s period room ≡ Refused r
-  refused-seeing room = rw (e, ne-eqb r 0 n, ne-eqb r 0 n)
-
-  refused-written : (room : ℕ) → written table s period room ≡ Refused r
-  refused-written room = written-seen table s period room ∙ refused-seeing room
-
-  left-seeing : (buffer : List ℕ) → sheetLeftSeeing (refusal table) (headOf table) (itemText table) s period buffer ≡ buffer
-  left-seeing buffer = rw (e, ne-eqb r 0 n, ne-eqb r 0 n)
-
-  refused-left : (buffer : List ℕ) → sheetLeft table s period buffer ≡ buffer
-  refused-left buffer = left-seen table s period buffer ∙ left-seeing buffer
-
-module _ (table other : List ℕ) (A : AsSecond table other) where
-  module _ (s : List ℕ) (period : ℕ) where
-    same-written : Dec (refusal other ≡ 0) → (room : ℕ) → written table s period room ≡ written other s period room
-    same-written (yes taken) room =
-        written-seen table s period room
-        ∙ (λ i. writtenSeeing (A .judged i) (A .head i) (λ k. A .text taken k i) s period room)
-        ∙ sym (written-seen other s period room)
-    same-written (no refused) room =
-        refused-written table s period (refusal other) (A .judged) refused room
-        ∙ sym (refused-written other s period (refusal other) refl refused room)
-
-    same-left : Dec (refusal other ≡ 0) → (buffer : List ℕ) → sheetLeft table s period buffer ≡ sheetLeft other s period buffer
-    same-left (yes taken) buffer =
-        left-seen table s period buffer
-        ∙ (λ i. sheetLeftSeeing (A .judged i) (A .head i) (λ k. A .text taken k i) s period buffer)
-        ∙ sym (left-seen other s period buffer)
-    same-left (no refused) buffer =
-        refused-left table s period (refusal other) (A .judged) refused buffer
-        ∙ sym (refused-left other s period (refusal other) refl refused buffer)
-
-pub calls-as-second : (table other : List ℕ) → SameButOnes table other → CallsAsSecond table other
-calls-as-second table other R =
-    let A = all-ones table other R in
-    let taken = ℕ-discrete (refusal other) 0 in
-    record {
-      fresh-answers = λ s. fresh-answers table s (A .judged) ∙ sym (fresh-answers other s refl);
-      fresh-leaves = λ s. fresh-leaves table s (A .judged) ∙ sym (fresh-leaves other s refl);
-      writes-answers = λ s period. same-written table other A s period taken;
-      writes-leaves = λ s buffer period. same-left table other A s period taken buffer;
-    }
-
-module _ (input other : List ℕ) (S : SameSteps input other) where
-  both : AsSecond (tableIn input) (tableIn other)
-  both = all-ones (tableIn input) (tableIn other) (S .ones)
-
-  steps : StepsAsSecond (tableIn input) (tableIn other)
-  steps = steps-as-second (tableIn input) (tableIn other) (S .ones)
-
-  pub states-alike : (k : ℕ) → stateAt input k ≡ stateAt other k
-  unfolding stateAt
-  states-alike zero = refl
-  states-alike (suc k) =
-      ap₂ (stepBytes (tableIn input)) (states-alike k) (S .calls k) ∙ steps .leaves (stateAt other k) (callAt other k)
-
-  lines-alike : (k : ℕ) → stepAt input k ≡ stepAt other k
-  unfolding stepAt
-  lines-alike k =
-      ap (stepLine (k + 1)) (ap₂ (stepAnswer (tableIn input)) (states-alike k) (S .calls k) ∙ steps .answers (stateAt other k) (callAt other k))
-
-  last-alike : lastState input ≡ lastState other
-  unfolding lastState
-  last-alike = states-alike (stepCount input) ∙ ap (stateAt other) (S .count)
-
-  reports-alike : reportOf input ≡ reportOf other
-  unfolding reportOf
-  reports-alike = λ i.
-      headLine (both .head i .n) (both .head i .t) (honestCount (both .head i))
-      ++ each (fun-ext lines-alike i) (S .count i)
-      ++ stateLines (both .head i) (contents (last-alike i))
-
-  lent-alike : (s : List ℕ) → lentRefusal input s ≡ lentRefusal other s
-  unfolding lentRefusal
-  lent-alike s = rw (S .taken, S .other-taken)
-
-  pub rehearsed-as-second : RehearsedAsSecond input other
-  unfolding reported stateLeft
-  rehearsed-as-second = record {
-    reports = λ s i. cond (eqb (lent-alike s i) 0) (reports-alike i) (refusedLine (lent-alike s i));
-    leaves = λ s i. cond (eqb (lent-alike s i) 0) (last-alike i) s;
-  }

@@ -1,5 +1,5 @@
 -- What `fresh`, `write_sheet` and `rehearse` answer and leave, by what an engine sees of a table: an engine that reads
--- tables as an older one did, and this one on tables that are not newer than it; and weights that are all 1.
+-- tables as an older one did, and this one on tables that are not newer than it.
 use Prim.Native.Nat.{ℕ, zero, suc, _+_, _-_, _*_, _/_, _<_}
 use mathlib.Core.Bool.{Bool, cond, not, _&&_}
 use mathlib.Core.List.{List, [], _∷_, _++_}
@@ -23,7 +23,7 @@ use Rattle.report.specs.Lines.{refusedLine, headLine, stepLine}
 use Rattle.report.specs.State.{stateLines}
 use Rattle.valid.specs.StateOk.{stateOk}
 use Rattle.engine.specs.Engine.{freshState, freshAnswer, freshBytes}
-use Rattle.rehearsal.specs.Input.{inputMost, stepSize, tableIn, inputRefusal, stepCount, callAt}
+use Rattle.rehearsal.specs.Input.{inputMost, stepSize}
 use Rattle.rehearsal.specs.Rehearsal.{reported, stateLeft}
 use Rattle.sheets.specs.Made.{sheetOf}
 use Rattle.printing.specs.declared.Written.{Written}
@@ -31,7 +31,6 @@ use Rattle.printing.specs.declared.Written.the-variants.{Sheet, Refused}
 use Rattle.printing.specs.Board.{boardsOn, firstBoard}
 use Rattle.printing.specs.Written.{written, sheetLeft}
 use Rattle.edges.specs.Seasons.{Seen, firstEngine, secondEngine, StartsWith0, StartsWith03}
-use Rattle.edges.specs.Weights.{SameButOnes}
 use Rattle.guarantee.specs.Seasons.{answerSeeing, bytesSeeing}
 
 -- this engine
@@ -159,32 +158,16 @@ pub record OldCalls (old : Seen) (Newer : List ℕ → Type 0) : Type 0 where
   pub fresh-answers : (table s : List ℕ) → (Newer table → ⊥) → freshAnswer table s ≡ freshSeeing (old .refusal table) s
   pub fresh-leaves : (table s : List ℕ) → (Newer table → ⊥) → freshBytes table s ≡ freshLeft (old .refusal table) s
   pub writes-answers : (table s : List ℕ) (period room : ℕ) → (Newer table → ⊥)
-      → written table s period room ≡ writtenSeeing (old .refusal table) (old .headOf table) (old .itemText table) s period room
+      → written table s period room
+      ≡ writtenSeeing (old .refusal table) (old .headOf table) (old .itemText table) s period room
   pub writes-leaves : (table s buffer : List ℕ) (period : ℕ) → (Newer table → ⊥)
       → sheetLeft table s period buffer
       ≡ sheetLeftSeeing (old .refusal table) (old .headOf table) (old .itemText table) s period buffer
-  pub rehearse-reports : (input s : List ℕ) → (Newer input → ⊥) → reported input s ≡ reportedSeen (looksBy old input) input s
-  pub rehearse-leaves : (input s : List ℕ) → (Newer input → ⊥) → stateLeft input s ≡ stateLeftSeen (looksBy old input) input s
+  pub rehearse-reports : (input s : List ℕ) → (Newer input → ⊥)
+      → reported input s ≡ reportedSeen (looksBy old input) input s
+  pub rehearse-leaves : (input s : List ℕ) → (Newer input → ⊥)
+      → stateLeft input s ≡ stateLeftSeen (looksBy old input) input s
 
 pub record OldEnginesCalls : Type 0 where
   pub first : OldCalls firstEngine StartsWith0
   pub second : OldCalls secondEngine StartsWith03
-
--- Tables in which every weight is 1, beside those of the second season with the same fields.
-pub record CallsAsSecond (table other : List ℕ) : Type 0 where
-  pub fresh-answers : (s : List ℕ) → freshAnswer table s ≡ freshAnswer other s
-  pub fresh-leaves : (s : List ℕ) → freshBytes table s ≡ freshBytes other s
-  pub writes-answers : (s : List ℕ) (period room : ℕ) → written table s period room ≡ written other s period room
-  pub writes-leaves : (s buffer : List ℕ) (period : ℕ) → sheetLeft table s period buffer ≡ sheetLeft other s period buffer
-
--- two inputs that are not refused, with such tables and the same steps
-pub record SameSteps (input other : List ℕ) : Type 0 where
-  pub ones : SameButOnes (tableIn input) (tableIn other)
-  pub taken : inputRefusal input ≡ 0
-  pub other-taken : inputRefusal other ≡ 0
-  pub count : stepCount input ≡ stepCount other
-  pub calls : (k : ℕ) → callAt input k ≡ callAt other k
-
-pub record RehearsedAsSecond (input other : List ℕ) : Type 0 where
-  pub reports : (s : List ℕ) → reported input s ≡ reported other s
-  pub leaves : (s : List ℕ) → stateLeft input s ≡ stateLeft other s

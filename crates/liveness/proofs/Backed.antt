@@ -48,7 +48,8 @@ module _ (T : Table) (p U : ℕ) (before : State) where
       due = set-elim (λ k v. Peer T k → (v ≡ p) ⊎ ((p < v) × (more k p U ≡ true))) j (s .toBack j + 1) (s .toBack)
           (λ h. inr (⊎-elim (λ u. (omega arith, new u)) (λ u. (omega (arith, u .0), old j p U (u .1))) (I .due j h)))
           (λ k h. ⊎-elim inl (λ u. inr (u .0, old k p U (u .1))) (I .due k h));
-      only = λ k C b n. grow3 {P = λ k q C. q ≡ p → was k C ≡ false → C ≡ U} j (s .toBack j) B (backs (s .bag)) (λ u n. its u) earlier k p C b refl n;
+      only = λ k C b n. grow3 {P = λ k q C. q ≡ p → was k C ≡ false → C ≡ U} j (s .toBack j) B (backs (s .bag))
+          (λ u n. its u) earlier k p C b refl n;
     }
       where
         more : ℕ → ℕ → ℕ → Bool

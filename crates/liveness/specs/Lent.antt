@@ -37,7 +37,8 @@ pub record CanPublish (T : Table) (E : Behaviour) (before : State) (calls : List
   -- each peer's backing of it is in the bag, under a number that a call can name
   pub backed : (k : ℕ) → Peer T k → (e : ℕ) × (e < capacity) × (entryAt (E .held calls .bag) e ≡ Backing k p U)
   -- every backing of p in the bag is of U, but for those that were there before
-  pub only : (e k B : ℕ) → entryAt (E .held calls .bag) e ≡ Backing k p B → isIn (Backing k p B) (before .bag) ≡ false → B ≡ U
+  pub only : (e k B : ℕ) → entryAt (E .held calls .bag) e ≡ Backing k p B
+      → isIn (Backing k p B) (before .bag) ≡ false → B ≡ U
   -- publishing any backing of U answers 0 unless the bag is full, and then U is published
   pub publishes : (c : List ℕ) (e k : ℕ) → read c ≡ Formed (Publish e)
       → entryAt (E .held calls .bag) e ≡ Backing k p U → (E .answers calls c ≡ 13 → ⊥)

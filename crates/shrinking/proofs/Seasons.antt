@@ -1,13 +1,17 @@
 -- What shrinking sees of an input is what a rehearsal sees of it.
-use Prim.Native.Nat.{ℕ, _-_}
+use Prim.Native.Nat.{ℕ, _-_, _≤_}
+use native.Mathlib.Decide.{ℕ-discrete}
 use mathlib.Core.Bool.{Bool, true, false, cond, _||_, _&&_}
 use mathlib.Core.List.{List}
 use mathlib.Core.Logic.{_⊎_, inl, inr}
 use mathlib.Core.Path.{_≡_, refl, sym, ap, ap₂, fun-ext, _∙_}
 use lib.Dec.{eqb, ltb}
 use lib.ListN.{length}
+use borrow.Author.Tests.{ne-eqb}
 use Rattle.base.specs.Bytes.{byteAt}
 use Rattle.base.proofs.Truth.{either}
+use Rattle.header.specs.Season.{zeroThen}
+use Rattle.header.specs.Header.{peersOf, weightIn}
 use Rattle.rules.specs.Run.{Engine}
 use Rattle.state.specs.Contents.{contents}
 use Rattle.view.specs.View.{stateOf}
@@ -16,11 +20,12 @@ use Rattle.report.specs.Lines.{refusedLine}
 use Rattle.engine.specs.Engine.{freshState, stepAnswer, stepBytes}
 use Rattle.rehearsal.specs.Input.{inputMost, tableIn, inputRefusal, stepCount, callAt}
 use Rattle.edges.specs.Seasons.{Seen, Older, firstEngine, secondEngine, StartsWith0, StartsWith03}
+use Rattle.edges.specs.Weights.{SameButOnes, unweighed}
 use Rattle.edges.proofs.Seasons.{season-edges}
 use Rattle.guarantee.specs.Demand3.{byBytes}
-use Rattle.guarantee.specs.Seasons.{StepsAsSecond}
-use Rattle.guarantee.specs.Seeing.{thisEngine, Looks, looksBy, tableSeen, refusalSeen, SameSteps}
-use Rattle.guarantee.proofs.Seasons.{steps-as-second}
+use Rattle.guarantee.specs.Seeing.{thisEngine, Looks, looksBy, tableSeen, refusalSeen}
+use Rattle.guarantee.proofs.Inputs.{not-too-long, inputs-alike}
+use Rattle.guarantee.proofs.Ones.{SameSteps, steps-alike, same-steps, unweighed-input}
 use Rattle.guarantee.proofs.Seeing.{refusal-seen, Halves, refused-alike, alike, no-first-header, no-second-header}
 use Rattle.dropping.specs.Kept.{everyStep}
 use Rattle.dropping.specs.Passes.{left}
@@ -69,22 +74,36 @@ old-engines-shrink = record {
 }
 
 -- weights that are all 1
-module _ (input other : List ℕ) (S : SameSteps input other) where
-  steps : StepsAsSecond (tableIn input) (tableIn other)
-  steps = steps-as-second (tableIn input) (tableIn other) (S .ones)
+module _ (input other : List ℕ) (R : SameButOnes input other) (few : length input ≤ inputMost) where
+  module _ (taken : inputRefusal other ≡ 0) where
+    S : SameSteps input other
+    S = same-steps input other R few taken
 
-  engines-alike : byBytes (tableIn input) ≡ byBytes (tableIn other)
-  engines-alike = λ i. record {
-    starts = freshState;
-    holds = λ s. stateOf (contents s);
-    answers = λ s c. steps .answers s c i;
-    leaves = λ s c. steps .leaves s c i;
-  }
+    engines-alike : byBytes (tableIn input) ≡ byBytes (tableIn other)
+    engines-alike = let steps = steps-alike input other S in λ i. record {
+      starts = freshState;
+      holds = λ s. stateOf (contents s);
+      answers = λ s c. steps .answers s c i;
+      leaves = λ s c. steps .leaves s c i;
+    }
 
-  answers-alike : answerIn input ≡ answerIn other
-  unfolding answerIn
-  answers-alike = λ i. lastAnswer (engines-alike i) (λ k. S .calls k i) (S .count i - 1)
+    answers-alike : answerIn input ≡ answerIn other
+    unfolding answerIn
+    answers-alike = λ i. lastAnswer (engines-alike i) (λ k. S .calls k i) (S .count i - 1)
 
   pub shrunk-as-second : shrunk input ≡ shrunk other
   unfolding shrunk shrinkRefusal clean stepsLeft
-  shrunk-as-second = rw (S .taken, S .other-taken, answers-alike, S .count)
+  shrunk-as-second = go (ℕ-discrete (inputRefusal other) 0)
+    where
+      go : Dec (inputRefusal other ≡ 0) → shrunk input ≡ shrunk other
+      go (yes taken) = rw (inputs-alike input other R few, taken, answers-alike taken, S taken .count)
+      go (no n) = rw (
+        inputs-alike input other R few,
+        ne-eqb (inputRefusal other) 0 n,
+        ne-eqb (inputRefusal other) 0 n,
+      )
+
+pub shrunk-as-unweighed : (input : List ℕ) → inputRefusal input ≡ 0 → zeroThen input 3 ≡ true
+    → ((k : ℕ) → 1 ≤ k → k ≤ peersOf input → weightIn input k ≡ 1) → shrunk input ≡ shrunk (unweighed input)
+shrunk-as-unweighed input fit third ones =
+    shrunk-as-second input (unweighed input) (unweighed-input input fit third ones) (not-too-long input fit)

@@ -1,5 +1,4 @@
--- The steps that are left of an input, by what an engine sees of it: an engine that reads tables as an older one did; and
--- weights that are all 1.
+-- The steps that are left of an input, by what an engine sees of it: one that reads tables as an older engine did.
 use Prim.Native.Nat.{ℕ, _-_}
 use mathlib.Core.Bool.{Bool, _||_, cond}
 use mathlib.Core.List.{List}

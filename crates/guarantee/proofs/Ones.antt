@@ -1,0 +1,164 @@
+-- Weights that are all 1 change nothing, in what `fresh`, `write_sheet` and `rehearse` answer and leave.
+use Prim.Native.Nat.{ℕ, zero, suc, _+_, _-_, _*_, _/_, _≤_}
+use native.Mathlib.Decide.{ℕ-discrete}
+use native.Mathlib.Omega.{arith}
+use mathlib.Core.Bool.{true, false, cond}
+use mathlib.Core.List.{List, _++_}
+use mathlib.Core.Path.{_≡_, refl, sym, ap, ap₂, fun-ext, _∙_}
+use lib.Dec.{eqb}
+use lib.ListN.{length, take}
+use borrow.Author.Tests.{ne-eqb, not-false}
+use Rattle.base.specs.Bytes.{part}
+use Rattle.base.proofs.Refusals.{passed}
+use Rattle.base.proofs.Truth.{and-l}
+use Rattle.header.specs.Season.{zeroThen}
+use Rattle.header.specs.Header.{headerSize, peersOf, itemsOf, weightIn, headOf, headerOk, honestCount}
+use Rattle.pairs.specs.Pairs.{pairsFit}
+use Rattle.ballot.specs.Table.{refusal, itemText}
+use Rattle.text.specs.Wrote.{each}
+use Rattle.report.specs.Lines.{refusedLine, headLine, stepLine}
+use Rattle.report.specs.State.{stateLines}
+use Rattle.state.specs.Contents.{contents}
+use Rattle.engine.specs.Engine.{stepAnswer, stepBytes}
+use Rattle.rehearsal.specs.Input.{inputMost, stepSize, tableEnd, tableIn, tableThere, inputRefusals, inputRefusal, stepCount, callAt}
+use Rattle.rehearsal.specs.Rehearsal.{stateAt, stepAt, lastState, reportOf, lentRefusal, reported, stateLeft}
+use Rattle.printing.specs.declared.Written.the-variants.{Refused}
+use Rattle.printing.specs.Written.{written, sheetLeft}
+use Rattle.edges.specs.Weights.{SameButOnes, AsSecond, unweighed}
+use Rattle.edges.proofs.AllOnes.{all-ones}
+use Rattle.edges.proofs.Unweighed.{unweighed-fits}
+use Rattle.guarantee.specs.Seasons.{StepsAsSecond}
+use Rattle.guarantee.specs.Seeing.{writtenSeeing, sheetLeftSeeing}
+use Rattle.guarantee.specs.Ones.{CallsAsSecond, RehearsedAsSecond}
+use Rattle.guarantee.proofs.Seasons.{steps-as-second}
+use Rattle.guarantee.proofs.Seeing.{fresh-answers, fresh-leaves, written-seen, left-seen}
+use Rattle.guarantee.proofs.Inputs.{tables-same, inputs-alike, count-alike, call-alike, not-too-long, right-there}
+
+-- fresh and write_sheet: a table that is refused is answered with its refusal
+
+module _ (table s : List ℕ) (period r : ℕ) (e : refusal table ≡ r) (n : r ≡ 0 → ⊥) where
+  refused-seeing : (room : ℕ) → writtenSeeing (refusal table) (headOf table) (itemText table) s period room ≡ Refused r
+  refused-seeing room = rw (e, ne-eqb r 0 n, ne-eqb r 0 n)
+
+  refused-written : (room : ℕ) → written table s period room ≡ Refused r
+  refused-written room = written-seen table s period room ∙ refused-seeing room
+
+  left-seeing : (buffer : List ℕ) → sheetLeftSeeing (refusal table) (headOf table) (itemText table) s period buffer ≡ buffer
+  left-seeing buffer = rw (e, ne-eqb r 0 n, ne-eqb r 0 n)
+
+  refused-left : (buffer : List ℕ) → sheetLeft table s period buffer ≡ buffer
+  refused-left buffer = left-seen table s period buffer ∙ left-seeing buffer
+
+module _ (table other : List ℕ) (A : AsSecond table other) where
+  module _ (s : List ℕ) (period : ℕ) where
+    same-written : Dec (refusal other ≡ 0) → (room : ℕ) → written table s period room ≡ written other s period room
+    same-written (yes taken) room =
+        written-seen table s period room
+        ∙ (λ i. writtenSeeing (A .judged i) (A .head i) (λ k. A .text taken k i) s period room)
+        ∙ sym (written-seen other s period room)
+    same-written (no refused) room =
+        refused-written table s period (refusal other) (A .judged) refused room
+        ∙ sym (refused-written other s period (refusal other) refl refused room)
+
+    same-left : Dec (refusal other ≡ 0) → (buffer : List ℕ) → sheetLeft table s period buffer ≡ sheetLeft other s period buffer
+    same-left (yes taken) buffer =
+        left-seen table s period buffer
+        ∙ (λ i. sheetLeftSeeing (A .judged i) (A .head i) (λ k. A .text taken k i) s period buffer)
+        ∙ sym (left-seen other s period buffer)
+    same-left (no refused) buffer =
+        refused-left table s period (refusal other) (A .judged) refused buffer
+        ∙ sym (refused-left other s period (refusal other) refl refused buffer)
+
+pub calls-as-second : (table other : List ℕ) → SameButOnes table other → CallsAsSecond table other
+calls-as-second table other R =
+    let A = all-ones table other R in
+    let taken = ℕ-discrete (refusal other) 0 in
+    record {
+      fresh-answers = λ s. fresh-answers table s (A .judged) ∙ sym (fresh-answers other s refl);
+      fresh-leaves = λ s. fresh-leaves table s (A .judged) ∙ sym (fresh-leaves other s refl);
+      writes-answers = λ s period. same-written table other A s period taken;
+      writes-leaves = λ s buffer period. same-left table other A s period taken buffer;
+    }
+
+-- rehearse
+
+-- two inputs that are not refused, with such tables and the same steps
+pub record SameSteps (input other : List ℕ) : Type 0 where
+  pub tables : SameButOnes (tableIn input) (tableIn other)
+  pub count : stepCount input ≡ stepCount other
+  pub calls : (k : ℕ) → callAt input k ≡ callAt other k
+
+module _ (input other : List ℕ) (S : SameSteps input other) where
+  both : AsSecond (tableIn input) (tableIn other)
+  both = all-ones (tableIn input) (tableIn other) (S .tables)
+
+  pub steps-alike : StepsAsSecond (tableIn input) (tableIn other)
+  steps-alike = steps-as-second (tableIn input) (tableIn other) (S .tables)
+
+  states-alike : (k : ℕ) → stateAt input k ≡ stateAt other k
+  unfolding stateAt
+  states-alike zero = refl
+  states-alike (suc k) =
+      ap₂ (stepBytes (tableIn input)) (states-alike k) (S .calls k) ∙ steps-alike .leaves (stateAt other k) (callAt other k)
+
+  lines-alike : (k : ℕ) → stepAt input k ≡ stepAt other k
+  unfolding stepAt
+  lines-alike k =
+      ap (stepLine (k + 1))
+      (ap₂ (stepAnswer (tableIn input)) (states-alike k) (S .calls k) ∙ steps-alike .answers (stateAt other k) (callAt other k))
+
+  last-alike : lastState input ≡ lastState other
+  unfolding lastState
+  last-alike = states-alike (stepCount input) ∙ ap (stateAt other) (S .count)
+
+  reports-alike : reportOf input ≡ reportOf other
+  unfolding reportOf
+  reports-alike = λ i.
+      headLine (both .head i .n) (both .head i .t) (honestCount (both .head i))
+      ++ each (fun-ext lines-alike i) (S .count i)
+      ++ stateLines (both .head i) (contents (last-alike i))
+
+module _ (input other : List ℕ) (R : SameButOnes input other) (few : length input ≤ inputMost) where
+  pub same-steps : inputRefusal other ≡ 0 → SameSteps input other
+  same-steps taken = let (ok, there) = right-there other taken in record {
+    tables = tables-same input other R ok there;
+    count = count-alike input other R ok there;
+    calls = call-alike input other R ok there;
+  }
+
+  lent-alike : (s : List ℕ) → lentRefusal input s ≡ lentRefusal other s
+  unfolding lentRefusal
+  lent-alike s = rw (inputs-alike input other R few)
+
+  -- an input that is refused is reported as refused, and leaves what was lent
+  refused-lent : (inputRefusal other ≡ 0 → ⊥) → (s : List ℕ) → eqb (lentRefusal other s) 0 ≡ false
+  unfolding lentRefusal
+  refused-lent n s = rw (ne-eqb (inputRefusal other) 0 n, ne-eqb (inputRefusal other) 0 n)
+
+  reported-alike : (s : List ℕ) → Dec (inputRefusal other ≡ 0) → reported input s ≡ reported other s
+  unfolding reported
+  reported-alike s (yes taken) =
+      let same = reports-alike input other (same-steps taken) in
+      λ i. cond (eqb (lent-alike s i) 0) (same i) (refusedLine (lent-alike s i))
+  reported-alike s (no n) = rw (lent-alike s, refused-lent n s)
+
+  left-alike : (s : List ℕ) → Dec (inputRefusal other ≡ 0) → stateLeft input s ≡ stateLeft other s
+  unfolding stateLeft
+  left-alike s (yes taken) = λ i. cond (eqb (lent-alike s i) 0) (last-alike input other (same-steps taken) i) s
+  left-alike s (no n) = rw (lent-alike s, refused-lent n s)
+
+  pub rehearsed-as-second : RehearsedAsSecond input other
+  rehearsed-as-second =
+      let judged = ℕ-discrete (inputRefusal other) 0 in
+      record { reports = λ s. reported-alike s judged; leaves = λ s. left-alike s judged }
+
+-- and every input that is not refused and has no weight but 1 has one of the second season beside it: `unweighed`, made
+-- of its own bytes
+module _ (input : List ℕ) (fit : inputRefusal input ≡ 0) (third : zeroThen input 3 ≡ true)
+    (ones : (k : ℕ) → 1 ≤ k → k ≤ peersOf input → weightIn input k ≡ 1) where
+  pub unweighed-input : SameButOnes input (unweighed input)
+  unfolding tableThere
+  unweighed-input = let (ok, there) = right-there input fit in unweighed-fits input ok (and-l _ _ there) third ones
+
+  pub rehearsed-as-unweighed : RehearsedAsSecond input (unweighed input)
+  rehearsed-as-unweighed = rehearsed-as-second input (unweighed input) unweighed-input (not-too-long input fit)
