@@ -97,7 +97,7 @@ module _ (s r : List ℕ) (R : SameButOnes s r) where
 
   -- the weights
 
-  weighs-one : (k : ℕ) → weightIn s k ≡ 1
+  pub weighs-one : (k : ℕ) → weightIn s k ≡ 1
   weighs-one k = go (either (between 1 k (weightCount s)))
     where
       most : weightCount s ≤ peersOf s

@@ -4,7 +4,7 @@ use Prim.Native.Nat.{ℕ, _≤_}
 use native.Mathlib.Omega.{arith}
 use mathlib.Core.Bool.{true, false}
 use mathlib.Core.List.{List, [], _∷_}
-use mathlib.Core.Path.{_≡_, refl, sym, _∙_}
+use mathlib.Core.Path.{_≡_, refl, sym, ap, _∙_}
 use Rattle.base.proofs.Truth.{true-false}
 use Rattle.base.specs.Below.{any, every}
 use Rattle.base.specs.Bits.{bit, member, pack}
@@ -32,34 +32,57 @@ use Rattle.edges.specs.Premise.{barelyBytes}
 use Rattle.edges.specs.Seasons.{twoPlaces}
 use Rattle.edges.specs.Cases.{Worked, caseR, twoFaced}
 use Rattle.edges.specs.TwoDays.{slipTable, slipOnTwoDays}
-use Rattle.edges.specs.Weighted.{carryTable, weightsCarry, clashTable, weightsLie, weightsHold}
+use Rattle.edges.specs.Weighted.{onesPlaces, carryTable, weightsCarry, clashTable, weightsLie, weightsHold}
 use Rattle.edges.specs.Worked.{RulesEnd, RulesIdeally}
 use Rattle.edges.proofs.Table.{table-cases, season-cases}
 use Rattle.edges.proofs.Weighted.{weight-cases}
+use Rattle.edges.proofs.AllOnes.{weighs-one, all-ones}
 use Rattle.edges.proofs.Premise.{premise-edges}
 use Rattle.edges.proofs.Worked.{follower-ends, follower-ideally}
 use Rattle.guarantee.specs.Demand3.{HonestEnough}
-use Rattle.guarantee.specs.Worked.{BytesMeet, RunsTo, BytesRun}
+use Rattle.guarantee.specs.Counted.{CountedEnough}
+use Rattle.guarantee.specs.Worked.{BytesMeet, HeadsMeet, RunsTo, BytesRun}
 use Rattle.guarantee.proofs.Demand3.{bytes-follow}
 use Rattle.guarantee.proofs.Counted.{honest-heads, older-ones, enough}
 
 -- as many honest peers as t, in a table without weights
 counted-met : (table : List ℕ) → refusal table ≡ 0 → zeroThen table 3 ≡ false → thresholdOf table ≤ honestCount (headOf table)
-    → HonestEnough table
-counted-met table taken older honest = enough table (record {
+    → CountedEnough table
+counted-met table taken older honest = record {
   weighs-one = older-ones table taken older;
   honest = omega (arith, honest, honest-heads table taken);
-})
+}
+
+-- the table with weights that are all 1 has the header of the one without them
+ones-taken : refusal onesPlaces ≡ 0
+ones-taken = all-ones onesPlaces twoPlaces (weight-cases .ones) .judged ∙ season-cases .two-places
+
+pub heads-meet : HeadsMeet
+unfolding fieldOf
+heads-meet = record {
+  barely-met = λ n l m.
+      let b = premise-edges .met-by-bytes n l m in
+      counted-met (barelyBytes n) (b .taken) (not-zero (barelyBytes n) 3 (λ e. omega (arith, e, l))) (omega (arith, b .just-enough));
+  places-met = counted-met twoPlaces (season-cases .two-places) refl (omega (arith, season-cases .three-honest));
+  ones-met = record {
+    weighs-one = record { taken = ones-taken; ones = λ k l m. weighs-one onesPlaces twoPlaces (weight-cases .ones) k };
+    honest =
+        let same = ap honestCount (all-ones onesPlaces twoPlaces (weight-cases .ones) .head) in
+        omega (arith, same, season-cases .three-honest, honest-heads onesPlaces ones-taken);
+  };
+  case-r-all = record {
+    weighs-one = older-ones tables.caseR (table-cases .case-R-taken) refl;
+    honest = sym (honest-heads tables.caseR (table-cases .case-R-taken)) ∙ table-cases .case-R-honest;
+  };
+}
 
 pub bytes-meet : BytesMeet
 unfolding fieldOf
 bytes-meet = record {
-  barely-met = λ n l m.
-      let b = premise-edges .met-by-bytes n l m in
-      counted-met (barelyBytes n) (b .taken) (not-zero (barelyBytes n) 3 (λ e. omega (arith, e, l))) (omega (arith, b .just-enough));
-  case-r-met = counted-met tables.caseR (table-cases .case-R-taken) refl (omega (arith, table-cases .case-R-honest));
-  places-met = counted-met twoPlaces (season-cases .two-places) refl (omega (arith, season-cases .three-honest));
-  slip-met = counted-met slipTable (table-cases .slip-taken) refl (omega (arith, table-cases .slip-honest));
+  barely-met = λ n l m. enough (barelyBytes n) (heads-meet .barely-met n l m);
+  case-r-met = enough tables.caseR (counted-met tables.caseR (table-cases .case-R-taken) refl (omega (arith, table-cases .case-R-honest)));
+  places-met = enough twoPlaces (heads-meet .places-met);
+  slip-met = enough slipTable (counted-met slipTable (table-cases .slip-taken) refl (omega (arith, table-cases .slip-honest)));
   carry-met = record { taken = weight-cases .carry-taken; honest = omega (arith, weight-cases .all-honest) };
   two-carry-met = record { taken = weight-cases .two-taken; honest = omega (arith, weight-cases .two-honest) };
   hold-met = record { taken = weight-cases .hold-taken; honest = omega (arith, weight-cases .hold-honest, weight-cases .hold-threshold) };

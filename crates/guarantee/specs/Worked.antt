@@ -9,9 +9,10 @@ use Rattle.edges.specs.Seasons.{twoPlaces}
 use Rattle.rules.specs.Demand3.{Safe}
 use Rattle.edges.specs.Cases.{Worked, calls, caseR, twoFaced}
 use Rattle.edges.specs.TwoDays.{slipTable, slipOnTwoDays}
-use Rattle.edges.specs.Weighted.{carryTable, weightsCarry, clashTable, weightsLie, weightsHold}
+use Rattle.edges.specs.Weighted.{onesPlaces, carryTable, weightsCarry, clashTable, weightsLie, weightsHold}
 use Rattle.edges.specs.Worked.{Ends, Ideally}
 use Rattle.guarantee.specs.Demand3.{HonestEnough, byBytes, afterCalls}
+use Rattle.guarantee.specs.Counted.{CountedEnough, CountedAll}
 
 -- tables of bytes that meet the premise
 pub record BytesMeet : Type 0 where
@@ -26,6 +27,14 @@ pub record BytesMeet : Type 0 where
   pub carry-met : HonestEnough (carryTable 15)
   pub two-carry-met : HonestEnough (carryTable 3)
   pub hold-met : HonestEnough (clashTable 3)
+
+-- tables of bytes in which every weight is 1 and that meet document 01's premise, by heads: in the first season with any
+-- number of peers, in the second, and in the third; and one whose peers are all honest
+pub record HeadsMeet : Type 0 where
+  pub barely-met : (n : ℕ) → 1 ≤ n → n ≤ 16 → CountedEnough (barelyBytes n)
+  pub places-met : CountedEnough twoPlaces
+  pub ones-met : CountedEnough onesPlaces
+  pub case-r-all : CountedAll tables.caseR
 
 -- a run of the engine on bytes: its answers, what a report of it lists, and the ideal board beside it, with each move
 -- allowed
