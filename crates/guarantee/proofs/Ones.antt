@@ -1,37 +1,40 @@
--- Weights that are all 1 change nothing, in what `fresh`, `write_sheet` and `rehearse` answer and leave.
-use Prim.Native.Nat.{ℕ, zero, suc, _+_, _-_, _*_, _/_, _≤_}
+-- Weights that are all 1 change nothing, in what `fresh`, `write_sheet`, `rehearse` and `hang` answer and leave.
+use Prim.Native.Nat.{ℕ, zero, suc, _+_, _≤_}
 use native.Mathlib.Decide.{ℕ-discrete}
 use native.Mathlib.Omega.{arith}
-use mathlib.Core.Bool.{true, false, cond}
-use mathlib.Core.List.{List, _++_}
+use mathlib.Core.Bool.{true, false, cond, not}
+use mathlib.Core.List.{List, [], _∷_, _++_}
 use mathlib.Core.Path.{_≡_, refl, sym, ap, ap₂, fun-ext, _∙_}
-use lib.Dec.{eqb}
-use lib.ListN.{length, take}
-use borrow.Author.Tests.{ne-eqb, not-false}
-use Rattle.base.specs.Bytes.{part}
-use Rattle.base.proofs.Refusals.{passed}
+use lib.Dec.{eqb, leb}
+use lib.ListN.{length, length-drop}
+use borrow.Author.Tests.{ne-eqb}
+use Rattle.base.specs.Refusals.{name, unknown, numbered, first}
 use Rattle.base.proofs.Truth.{and-l}
 use Rattle.header.specs.Season.{zeroThen}
-use Rattle.header.specs.Header.{headerSize, peersOf, itemsOf, weightIn, headOf, headerOk, honestCount}
-use Rattle.pairs.specs.Pairs.{pairsFit}
+use Rattle.header.specs.Header.{peersOf, weightIn, headOf, honestCount}
 use Rattle.ballot.specs.Table.{refusal, itemText}
 use Rattle.text.specs.Wrote.{each}
 use Rattle.report.specs.Lines.{refusedLine, headLine, stepLine}
 use Rattle.report.specs.State.{stateLines}
 use Rattle.state.specs.Contents.{contents}
 use Rattle.engine.specs.Engine.{stepAnswer, stepBytes}
-use Rattle.rehearsal.specs.Input.{inputMost, stepSize, tableEnd, tableIn, tableThere, inputRefusals, inputRefusal, stepCount, callAt}
+use Rattle.rules.specs.Ideal.{hasBoard}
+use Rattle.rehearsal.specs.Input.{inputMost, tableIn, tableThere, inputRefusal, stepCount, callAt}
 use Rattle.rehearsal.specs.Rehearsal.{stateAt, stepAt, lastState, reportOf, lentRefusal, reported, stateLeft}
 use Rattle.printing.specs.declared.Written.the-variants.{Refused}
-use Rattle.printing.specs.Written.{written, sheetLeft}
+use Rattle.rehearsal.proofs.Taking as rehearsed
+use Rattle.printing.specs.Board.{boardsOn}
+use Rattle.printing.specs.Written.{sheetFor, written, sheetLeft}
+use Rattle.hall.specs.Hung.{periodAsked, rehearsalIn, askedAnswer, periodAnswer, hung}
+use Rattle.hall.proofs.Hanging.{of-rehearsal}
 use Rattle.edges.specs.Weights.{SameButOnes, AsSecond, unweighed}
 use Rattle.edges.proofs.AllOnes.{all-ones}
 use Rattle.edges.proofs.Unweighed.{unweighed-fits}
 use Rattle.guarantee.specs.Seasons.{StepsAsSecond}
-use Rattle.guarantee.specs.Seeing.{writtenSeeing, sheetLeftSeeing}
+use Rattle.guarantee.specs.Seeing.{sheetSeeing, writtenSeeing, sheetLeftSeeing}
 use Rattle.guarantee.specs.Ones.{CallsAsSecond, RehearsedAsSecond}
 use Rattle.guarantee.proofs.Seasons.{steps-as-second}
-use Rattle.guarantee.proofs.Seeing.{fresh-answers, fresh-leaves, written-seen, left-seen}
+use Rattle.guarantee.proofs.Seeing.{fresh-answers, fresh-leaves, sheet-seen, written-seen, left-seen, in-turn}
 use Rattle.guarantee.proofs.Inputs.{tables-same, inputs-alike, count-alike, call-alike, not-too-long, right-there}
 
 -- fresh and write_sheet: a table that is refused is answered with its refusal
@@ -89,7 +92,7 @@ pub record SameSteps (input other : List ℕ) : Type 0 where
   pub calls : (k : ℕ) → callAt input k ≡ callAt other k
 
 module _ (input other : List ℕ) (S : SameSteps input other) where
-  both : AsSecond (tableIn input) (tableIn other)
+  pub both : AsSecond (tableIn input) (tableIn other)
   both = all-ones (tableIn input) (tableIn other) (S .tables)
 
   pub steps-alike : StepsAsSecond (tableIn input) (tableIn other)
@@ -107,7 +110,7 @@ module _ (input other : List ℕ) (S : SameSteps input other) where
       ap (stepLine (k + 1))
       (ap₂ (stepAnswer (tableIn input)) (states-alike k) (S .calls k) ∙ steps-alike .answers (stateAt other k) (callAt other k))
 
-  last-alike : lastState input ≡ lastState other
+  pub last-alike : lastState input ≡ lastState other
   unfolding lastState
   last-alike = states-alike (stepCount input) ∙ ap (stateAt other) (S .count)
 
@@ -151,6 +154,63 @@ module _ (input other : List ℕ) (R : SameButOnes input other) (few : length in
   rehearsed-as-second =
       let judged = ℕ-discrete (inputRefusal other) 0 in
       record { reports = λ s. reported-alike s judged; leaves = λ s. left-alike s judged }
+
+-- hang, where the same period is asked for
+module _ (input other : List ℕ) (asked : periodAsked input ≡ periodAsked other) (R : SameButOnes (rehearsalIn input) (rehearsalIn other))
+    (few : length input ≤ inputMost) where
+  few-in : length (rehearsalIn input) ≤ inputMost
+  few-in = omega (arith, length-drop 1 input, few)
+
+  asked-other : inputRefusal (rehearsalIn other) ≡ askedAnswer other
+  asked-other =
+      of-rehearsal other (omega (arith, few, R .rest .longer, length-drop 1 input, length-drop 1 other)) refl
+
+  asked-alike : askedAnswer input ≡ askedAnswer other
+  asked-alike = sym (of-rehearsal input few refl) ∙ inputs-alike (rehearsalIn input) (rehearsalIn other) R few-in ∙ asked-other
+
+  -- the rehearsals are not refused
+  module _ (taken : inputRefusal (rehearsalIn other) ≡ 0) where
+    S : SameSteps (rehearsalIn input) (rehearsalIn other)
+    S = same-steps (rehearsalIn input) (rehearsalIn other) R few-in taken
+
+    A : AsSecond (tableIn (rehearsalIn input)) (tableIn (rehearsalIn other))
+    A = both (rehearsalIn input) (rehearsalIn other) S
+
+    own-taken : refusal (tableIn (rehearsalIn other)) ≡ 0
+    own-taken = rehearsed.taken (rehearsalIn other) taken .table
+
+    then-alike : lastState (rehearsalIn input) ≡ lastState (rehearsalIn other)
+    then-alike = last-alike (rehearsalIn input) (rehearsalIn other) S
+
+    period-alike : periodAnswer (tableIn (rehearsalIn input)) (lastState (rehearsalIn input)) (periodAsked input)
+        ≡ periodAnswer (tableIn (rehearsalIn other)) (lastState (rehearsalIn other)) (periodAsked other)
+    unfolding periodAnswer
+    period-alike = λ i. first (numbered (
+        (name, leb (A .head i .periods) (asked i))
+        ∷ (unknown, not (hasBoard (boardsOn (then-alike i)) (asked i)))
+        ∷ []))
+
+    sheet-alike : sheetFor (tableIn (rehearsalIn input)) (lastState (rehearsalIn input)) (periodAsked input)
+        ≡ sheetFor (tableIn (rehearsalIn other)) (lastState (rehearsalIn other)) (periodAsked other)
+    sheet-alike =
+        sheet-seen (tableIn (rehearsalIn input)) (lastState (rehearsalIn input)) (periodAsked input)
+        ∙ (λ i. sheetSeeing (A .judged i) (A .head i) (λ k. A .text own-taken k i) (then-alike i) (asked i))
+        ∙ sym (sheet-seen (tableIn (rehearsalIn other)) (lastState (rehearsalIn other)) (periodAsked other))
+
+  pub hung-as-second : hung input ≡ hung other
+  unfolding hung
+  hung-as-second = go (ℕ-discrete (inputRefusal (rehearsalIn other)) 0)
+    where
+      go : Dec (inputRefusal (rehearsalIn other) ≡ 0) → hung input ≡ hung other
+      go (yes taken) = rw (in-turn input, in-turn other, asked-alike, period-alike taken, sheet-alike taken)
+      go (no n) = rw (
+        in-turn input,
+        in-turn other,
+        asked-alike,
+        ← asked-other,
+        ne-eqb (inputRefusal (rehearsalIn other)) 0 n,
+        ne-eqb (inputRefusal (rehearsalIn other)) 0 n,
+      )
 
 -- and every input that is not refused and has no weight but 1 has one of the second season beside it: `unweighed`, made
 -- of its own bytes

@@ -1,4 +1,4 @@
--- What `fresh`, `write_sheet` and `rehearse` see of a table is its refusal, its header, its texts and its clashes: where
+-- What `fresh`, `write_sheet`, `rehearse` and `hang` see of a table is its refusal, its header, its texts and its clashes: where
 -- these are what they were, so are the answers, and what is left.
 use Prim.Native.Nat.{ℕ, zero, suc, _+_, _*_, _≤_, _<_}
 use native.Mathlib.Decide.{ℕ-discrete, decLt}
@@ -8,8 +8,8 @@ use mathlib.Core.List.{List, [], _∷_, _++_}
 use mathlib.Core.Logic.{_⊎_, inl, inr}
 use mathlib.Core.Path.{_≡_, refl, sym, ap, ap₂, subst, fun-ext, _∙_}
 use lib.Dec.{eqb, leb, ltb}
-use lib.ListN.{length}
-use borrow.Author.Tests.{ne-eqb, eq-eqb, eqb-true, leb-true}
+use lib.ListN.{length, length-drop}
+use borrow.Author.Tests.{ne-eqb, eqb-true, le-ltb, ltb-false}
 use Rattle.base.specs.Bits.{bit}
 use Rattle.base.specs.Bytes.{byteAt, part}
 use Rattle.base.specs.Refusals.{Refusals, state, name, unknown, sheet, numbered, first}
@@ -31,12 +31,23 @@ use Rattle.rehearsal.specs.Rehearsal.{stateAt, stepAt, lastState, reportOf, len
 use Rattle.printing.specs.declared.Written.the-variants.{Refused}
 use Rattle.printing.specs.Board.{boardsOn, firstBoard, boardTexts}
 use Rattle.printing.specs.Written.{sheetFor, boardRefusals, writeAnswer, written, sheetLeft}
+use Rattle.hall.specs.Hung.{periodAsked, rehearsalIn, askedRefusals, periodRefusals, askedAnswer, periodAnswer, hangAnswer, hung}
 use Rattle.edges.specs.Seasons.{Seen, AsBefore, Older, firstEngine, secondEngine, StartsWith0, StartsWith03}
 use Rattle.edges.specs.SecondSeason as two
 use Rattle.edges.proofs.Seasons.{season-edges}
 use Rattle.guarantee.specs.Seasons.{answerSeeing, bytesSeeing}
-use Rattle.guarantee.specs.Seeing.{thisEngine, freshSeeing, freshLeft, textsSeen, sheetSeeing, writeSeeing, writtenSeeing, sheetLeftSeeing, Looks, tableBy, looksBy, tableSeen, refusalSeen, countSeen, callSeen, stateSeen, lineSeen, reportSeen, lentSeen, reportedSeen, stateLeftSeen, OldCalls, OldEnginesCalls}
+use Rattle.guarantee.specs.Seeing.{thisEngine, freshSeeing, freshLeft, textsSeen, sheetSeeing, writeSeeing, writtenSeeing, sheetLeftSeeing, Looks, tableBy, looksBy, tableSeen, refusalSeen, countSeen, callSeen, stateSeen, lineSeen, reportSeen, lentSeen, reportedSeen, stateLeftSeen, askedSeen, stateThen, hangSeen, hungSeen, OldCalls, OldEnginesCalls}
 use Rattle.guarantee.proofs.Inputs.{end-most, byte-in}
+
+-- the first refusal of a row, and where none of it applies that of the next
+first-in-turn : (row next : Refusals)
+    → first (numbered (row ++ next)) ≡ cond (eqb (first (numbered row)) 0) (first (numbered next)) (first (numbered row))
+first-in-turn row next = go (ℕ-discrete (first (numbered row)) 0)
+  where
+    go : Dec (first (numbered row) ≡ 0)
+        → first (numbered (row ++ next)) ≡ cond (eqb (first (numbered row)) 0) (first (numbered next)) (first (numbered row))
+    go (yes e) = first-passed row next e ∙ rw e refl
+    go (no n) = first-given row next n ∙ rw (ne-eqb _ 0 n) refl
 
 -- write_sheet
 
@@ -46,18 +57,13 @@ texts-seen table B zero = refl
 texts-seen table B (suc x) = ap (λ (l : List (List ℕ)). l ++ cond (bit B x) (itemText table x ∷ []) []) (texts-seen table B x)
 
 module _ (table s : List ℕ) (period : ℕ) where
-  sheet-seen : sheetFor table s period ≡ sheetSeeing (refusal table) (headOf table) (itemText table) s period
+  pub sheet-seen : sheetFor table s period ≡ sheetSeeing (refusal table) (headOf table) (itemText table) s period
   unfolding sheetFor
   sheet-seen = rw (texts-seen table (firstBoard (boardsOn s) period) (itemsOf table))
 
   write-seen : (room : ℕ) → writeAnswer table s period room ≡ writeSeeing (refusal table) (headOf table) (itemText table) s period room
   unfolding writeAnswer refusal
-  write-seen room = rw (← sheet-seen) (go (ℕ-discrete (refusal table) 0))
-    where
-      go : Dec (refusal table ≡ 0) → first (numbered (tableRefusals table ++ boardRefusals table s period room))
-          ≡ cond (eqb (refusal table) 0) (first (numbered (boardRefusals table s period room))) (refusal table)
-      go (yes e) = first-passed (tableRefusals table) (boardRefusals table s period room) e ∙ rw e refl
-      go (no n) = first-given (tableRefusals table) (boardRefusals table s period room) n ∙ rw (ne-eqb _ 0 n) refl
+  write-seen room = rw (← sheet-seen) (first-in-turn (tableRefusals table) (boardRefusals table s period room))
 
   pub written-seen : (room : ℕ) → written table s period room ≡ writtenSeeing (refusal table) (headOf table) (itemText table) s period room
   unfolding written
@@ -99,6 +105,39 @@ module _ (input : List ℕ) where
   unfolding stateLeft lentRefusal lastState stepCount
   state-left-seen s = rw (refusal-seen, state-seen (stepCount input))
 
+-- hang
+
+module _ (input : List ℕ) where
+  abbrev looked : Looks
+  looked = looksBy thisEngine (rehearsalIn input)
+
+  asked-seen : askedAnswer input ≡ askedSeen looked input
+  unfolding askedAnswer inputRefusal refusal first tableThere tableIn
+  asked-seen = refl
+
+  -- the input's refusals, then those of the period
+  pub in-turn : hangAnswer input ≡ cond (eqb (askedAnswer input) 0)
+      (periodAnswer (tableIn (rehearsalIn input)) (lastState (rehearsalIn input)) (periodAsked input)) (askedAnswer input)
+  unfolding hangAnswer askedAnswer periodAnswer
+  in-turn = first-in-turn (askedRefusals input)
+      (periodRefusals (tableIn (rehearsalIn input)) (lastState (rehearsalIn input)) (periodAsked input))
+
+  then-seen : lastState (rehearsalIn input) ≡ stateThen looked input
+  unfolding lastState stepCount
+  then-seen = state-seen (rehearsalIn input) (stepCount (rehearsalIn input))
+
+  hang-seen : hangAnswer input ≡ hangSeen looked input
+  unfolding periodAnswer tableIn
+  hang-seen = in-turn ∙ rw (asked-seen, then-seen)
+
+  hung-seen : hung input ≡ hungSeen looked input
+  unfolding hung tableIn
+  hung-seen =
+      rw hang-seen
+      (ap (λ (l : List ℕ). cond (eqb (hangSeen looked input) 0) l (refusedLine (hangSeen looked input)))
+      (sheet-seen (tableIn (rehearsalIn input)) (lastState (rehearsalIn input)) (periodAsked input)
+      ∙ ap (λ (s : List ℕ). sheetSeeing (looked .refused) (looked .head) (looked .text) s (periodAsked input)) then-seen))
+
 -- fresh
 
 module _ (table s : List ℕ) {r : ℕ} (judged : refusal table ≡ r) where
@@ -137,6 +176,15 @@ module _ (input s : List ℕ) (L M : Looks) (H : Halves L M) (none : tableSeen L
   leaves-none : stateLeftSeen L input s ≡ stateLeftSeen M input s
   leaves-none = rw (refused-alike .0, refused-alike .1, refused-alike .1)
 
+hangs-none : (input : List ℕ) (L M : Looks) → Halves L M → tableSeen L (rehearsalIn input) ≡ false → hungSeen L input ≡ hungSeen M input
+hangs-none input L M H none = go (either (ltb inputMost (length input)))
+  where
+    go : (ltb inputMost (length input) ≡ true) ⊎ (ltb inputMost (length input) ≡ false) → hungSeen L input ≡ hungSeen M input
+    go (inl e) = rw e
+    go (inr e) =
+        let same = refused-alike (rehearsalIn input) (rehearsalIn input) L M H none in
+        rw (e, same .0, same .1, same .1)
+
 -- where it has one, the table starts as the input does
 starts-alike : (input : List ℕ) → pairsFit input (headerSize input) (itemsOf input) ≡ true → (i : ℕ) → i < 6
     → byteAt (tableBy thisEngine input) i ≡ byteAt input i
@@ -162,6 +210,7 @@ module _ {old : Seen} {Newer : List ℕ → Type 0} (O : Older old Newer)
       refused = (B .judged ∙ ap (old .refusal) same-table) i;
       head = (B .head ∙ ap (old .headOf) same-table) i;
       clash = λ x y. (B .clashing x y ∙ ap (λ (t : List ℕ). old .clashIn t x y) same-table) i;
+      text = λ k. (B .text k ∙ ap (λ (t : List ℕ). old .itemText t k) same-table) i;
     }
 
     -- what is seen of the input alone is the same in any case
@@ -173,6 +222,7 @@ module _ {old : Seen} {Newer : List ℕ → Type 0} (O : Older old Newer)
       refused = old .refusal (tableBy old input);
       head = old .headOf (tableBy old input);
       clash = old .clashIn (tableBy old input);
+      text = old .itemText (tableBy old input);
     }
 
     half-same : half ≡ looksBy old input
@@ -184,6 +234,7 @@ module _ {old : Seen} {Newer : List ℕ → Type 0} (O : Older old Newer)
       refused = old .refusal (tableBy old input);
       head = old .headOf (tableBy old input);
       clash = old .clashIn (tableBy old input);
+      text = old .itemText (tableBy old input);
     }
 
     -- so is all that looks at no table where there is none
@@ -210,11 +261,23 @@ module _ {old : Seen} {Newer : List ℕ → Type 0} (O : Older old Newer)
       go (inl e) = rw e
       go (inr e) = rw (e, by-header input newer)
 
+  hung-header : (input : List ℕ) → Newer (rehearsalIn input)
+      → hungSeen (looksBy old (rehearsalIn input)) input ≡ refusedLine (cond (ltb inputMost (length input)) 15 1)
+  hung-header input newer = go (either (ltb inputMost (length input)))
+    where
+      go : (ltb inputMost (length input) ≡ true) ⊎ (ltb inputMost (length input) ≡ false)
+          → hungSeen (looksBy old (rehearsalIn input)) input ≡ refusedLine (cond (ltb inputMost (length input)) 15 1)
+      go (inl e) = rw e
+      go (inr e) =
+          let few = le-ltb inputMost (length (rehearsalIn input)) (omega (arith, length-drop 1 input, ltb-false inputMost (length input) e)) in
+          rw (e, few, by-header (rehearsalIn input) newer)
+
   pub old-calls : OldCalls old Newer
   old-calls = record {
     fresh-refuses = λ table s newer. rw (O .refuses table newer);
     writes-refuses = λ table s period room newer. rw (O .refuses table newer);
     rehearse-refuses = refused-header;
+    hang-refuses = hung-header;
     fresh-answers = λ table s other. fresh-answers table s (O .as-before table other .judged);
     fresh-leaves = λ table s other. fresh-leaves table s (O .as-before table other .judged);
     writes-answers = λ table s period room other. let A = O .as-before table other in
@@ -223,6 +286,7 @@ module _ {old : Seen} {Newer : List ℕ → Type 0} (O : Older old Newer)
         left-seen table s period buffer ∙ (λ i. sheetLeftSeeing (A .judged i) (A .head i) (λ k. A .text k i) s period buffer);
     rehearse-reports = λ input s other. reported-seen input s ∙ alike input other (λ L. reportedSeen L input s) (reports-none input s);
     rehearse-leaves = λ input s other. state-left-seen input s ∙ alike input other (λ L. stateLeftSeen L input s) (leaves-none input s);
+    hangs = λ input other. hung-seen input ∙ alike (rehearsalIn input) other (λ L. hungSeen L input) (hangs-none input);
   }
 
 pub no-first-header : (s : List ℕ) → StartsWith0 s → firstEngine .headerOk s ≡ false

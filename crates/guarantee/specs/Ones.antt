@@ -15,7 +15,7 @@ pub record CallsAsSecond (table other : List ℕ) : Type 0 where
   pub writes-leaves : (s buffer : List ℕ) (period : ℕ)
       → sheetLeft table s period buffer ≡ sheetLeft other s period buffer
 
--- rehearse, of inputs with such tables and the same steps
+-- rehearse, of inputs with such tables and the same steps behind them
 pub record RehearsedAsSecond (input other : List ℕ) : Type 0 where
   pub reports : (s : List ℕ) → reported input s ≡ reported other s
   pub leaves : (s : List ℕ) → stateLeft input s ≡ stateLeft other s

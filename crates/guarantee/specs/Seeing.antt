@@ -1,4 +1,4 @@
--- What `fresh`, `write_sheet` and `rehearse` answer and leave, by what an engine sees of a table: an engine that reads
+-- What `fresh`, `write_sheet`, `rehearse` and `hang` answer and leave, by what an engine sees of a table: an engine that reads
 -- tables as an older one did, and this one on tables that are not newer than it.
 use Prim.Native.Nat.{ℕ, zero, suc, _+_, _-_, _*_, _/_, _<_}
 use mathlib.Core.Bool.{Bool, cond, not, _&&_}
@@ -30,6 +30,7 @@ use Rattle.printing.specs.declared.Written.{Written}
 use Rattle.printing.specs.declared.Written.the-variants.{Sheet, Refused}
 use Rattle.printing.specs.Board.{boardsOn, firstBoard}
 use Rattle.printing.specs.Written.{written, sheetLeft}
+use Rattle.hall.specs.Hung.{periodAsked, rehearsalIn, hung}
 use Rattle.edges.specs.Seasons.{Seen, firstEngine, secondEngine, StartsWith0, StartsWith03}
 use Rattle.guarantee.specs.Seasons.{answerSeeing, bytesSeeing}
 
@@ -79,7 +80,7 @@ module _ (refused : ℕ) (h : Head) (text : ℕ → List ℕ) (s : List ℕ) (pe
   sheetLeftSeeing buffer = cond (eqb (writeSeeing (length buffer)) 0) (over buffer 0 sheetSeeing) buffer
 
 -- rehearse: of the input whether its header is right, that header's length and how many items it has; of the table that
--- these mark out, its refusal, its header and its clashes
+-- these mark out, its refusal, its header, its clashes and its texts
 pub record Looks : Type 0 where
   pub ok : Bool
   pub long : ℕ
@@ -87,6 +88,7 @@ pub record Looks : Type 0 where
   pub refused : ℕ
   pub head : Head
   pub clash : ℕ → ℕ → Bool
+  pub text : ℕ → List ℕ
 
 -- what an engine sees of an input
 abbrev pub tableBy : Seen → List ℕ → List ℕ
@@ -100,6 +102,7 @@ looksBy e input = record {
   refused = e .refusal (tableBy e input);
   head = e .headOf (tableBy e input);
   clash = e .clashIn (tableBy e input);
+  text = e .itemText (tableBy e input);
 }
 
 module _ (L : Looks) (input : List ℕ) where
@@ -146,6 +149,29 @@ module _ (L : Looks) (input : List ℕ) where
   abbrev pub stateLeftSeen : List ℕ → List ℕ
   stateLeftSeen s = cond (eqb (lentSeen s) 0) (stateSeen countSeen) s
 
+-- hang: of the rehearsal after the period's byte the same
+module _ (L : Looks) (input : List ℕ) where
+  abbrev pub askedSeen : ℕ
+  askedSeen = cond (ltb inputMost (length input)) (numberOf word.input) (refusalSeen L (rehearsalIn input))
+
+  abbrev pub stateThen : List ℕ
+  stateThen = stateSeen L (rehearsalIn input) (countSeen L (rehearsalIn input))
+
+  abbrev pub periodSeen : ℕ
+  periodSeen = first (numbered (
+      (name, leb (L .head .periods) (periodAsked input))
+      ∷ (unknown, not (hasBoard (boardsOn stateThen) (periodAsked input)))
+      ∷ []))
+
+  abbrev pub hangSeen : ℕ
+  hangSeen = cond (eqb askedSeen 0) periodSeen askedSeen
+
+  abbrev pub hungSeen : List ℕ
+  hungSeen =
+      cond (eqb hangSeen 0)
+      (sheetSeeing (L .refused) (L .head) (L .text) stateThen (periodAsked input))
+      (refusedLine hangSeen)
+
 -- an engine that sees tables as an older one did, and what is newer than it
 pub record OldCalls (old : Seen) (Newer : List ℕ → Type 0) : Type 0 where
   -- a newer table is answered 1, header, and a newer input is refused with it, unless it is too long
@@ -154,6 +180,8 @@ pub record OldCalls (old : Seen) (Newer : List ℕ → Type 0) : Type 0 where
       → writtenSeeing (old .refusal table) (old .headOf table) (old .itemText table) s period room ≡ Refused 1
   pub rehearse-refuses : (input s : List ℕ) → Newer input
       → reportedSeen (looksBy old input) input s ≡ refusedLine (cond (ltb inputMost (length input)) 15 1)
+  pub hang-refuses : (input : List ℕ) → Newer (rehearsalIn input)
+      → hungSeen (looksBy old (rehearsalIn input)) input ≡ refusedLine (cond (ltb inputMost (length input)) 15 1)
   -- and on every other table and input the answers, and what is left, are those of that engine
   pub fresh-answers : (table s : List ℕ) → (Newer table → ⊥) → freshAnswer table s ≡ freshSeeing (old .refusal table) s
   pub fresh-leaves : (table s : List ℕ) → (Newer table → ⊥) → freshBytes table s ≡ freshLeft (old .refusal table) s
@@ -167,6 +195,8 @@ pub record OldCalls (old : Seen) (Newer : List ℕ → Type 0) : Type 0 where
       → reported input s ≡ reportedSeen (looksBy old input) input s
   pub rehearse-leaves : (input s : List ℕ) → (Newer input → ⊥)
       → stateLeft input s ≡ stateLeftSeen (looksBy old input) input s
+  pub hangs : (input : List ℕ) → (Newer (rehearsalIn input) → ⊥)
+      → hung input ≡ hungSeen (looksBy old (rehearsalIn input)) input
 
 pub record OldEnginesCalls : Type 0 where
   pub first : OldCalls firstEngine StartsWith0

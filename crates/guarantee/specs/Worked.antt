@@ -28,8 +28,8 @@ pub record BytesMeet : Type 0 where
   pub two-carry-met : HonestEnough (carryTable 3)
   pub hold-met : HonestEnough (clashTable 3)
 
--- tables of bytes in which every weight is 1 and that meet document 01's premise, by heads: in the first season with any
--- number of peers, in the second, and in the third; and one whose peers are all honest
+-- tables of bytes in which every weight is 1 and that meet document 01's premise, by heads: in the first season with
+-- any number of peers, in the second, and in the third; and one whose peers are all honest
 pub record HeadsMeet : Type 0 where
   pub barely-met : (n : ℕ) → 1 ≤ n → n ≤ 16 → CountedEnough (barelyBytes n)
   pub places-met : CountedEnough twoPlaces
