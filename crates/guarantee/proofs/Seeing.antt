@@ -269,7 +269,8 @@ module _ {old : Seen} {Newer : List ℕ → Type 0} (O : Older old Newer)
           → hungSeen (looksBy old (rehearsalIn input)) input ≡ refusedLine (cond (ltb inputMost (length input)) 15 1)
       go (inl e) = rw e
       go (inr e) =
-          let few = le-ltb inputMost (length (rehearsalIn input)) (omega (arith, length-drop 1 input, ltb-false inputMost (length input) e)) in
+          let few = le-ltb inputMost (length (rehearsalIn input))
+          (omega (arith, length-drop 1 input, ltb-false inputMost (length input) e)) in
           rw (e, few, by-header (rehearsalIn input) newer)
 
   pub old-calls : OldCalls old Newer
