@@ -2,21 +2,17 @@
 //! dishonest ones too, with counters on both sides of the period. What is due is told by
 //! how a state was made, and not by an engine.
 
-use crate::given::scattered;
 use crate::layout::encode;
 use crate::pair::{Call, Pair};
 use crate::Engine;
 use inputs::clears::is_hash_of;
 use inputs::peers::Peers;
 use inputs::random::Random;
+use inputs::scattered::{entries, put, scattered, Heard};
 use inputs::tables::Shape;
 use reference::form::{write_step, Step, STEP_LENGTH};
 use reference::state::{Board, Entry, State, BAG_SIZE};
 use reference::table::{read_table, Table};
-use std::collections::BTreeSet;
-
-/// An entry with those who heard it.
-type Heard = (Entry, BTreeSet<usize>);
 
 /// A clear asked for on a lent state.
 pub struct Asked {
@@ -55,8 +51,7 @@ impl Asked {
             let stay = entries.iter().filter(|(entry, _)| !is_hash_of(entry, period));
             put(&mut after, &stay.cloned().collect::<Vec<Heard>>());
         }
-        let buffer = encode(&state);
-        Asked { pair: Pair { text, table, state, buffer }, period, due, after, entries }
+        Asked { pair: Pair::lent(text, state), period, due, after, entries }
     }
 
     pub fn step(&self) -> [u8; STEP_LENGTH] {
@@ -126,43 +121,13 @@ fn put_counters(random: &mut Random, table: &Table, state: &mut State, period: u
     !late.is_empty()
 }
 
-/// Different entries of every kind, often of the period: few, many, or a full bag. Any
-/// peers heard the hashes. Now and then every honest peer's backing is among them.
+/// Different entries of every kind, often of the period: few, many, or a full bag. Now
+/// and then every honest peer's backing is among them.
 fn drawn_entries(random: &mut Random, table: &Table, period: usize) -> Vec<Heard> {
     let count = [random.below(6), random.between(6, 60), BAG_SIZE][random.below(3)];
-    let mut entries: Vec<Heard> = Vec::new();
-    let mut enter = |entry: Entry, heard: BTreeSet<usize>| {
-        if entries.len() < BAG_SIZE && !entries.iter().any(|(other, _)| *other == entry) {
-            entries.push((entry, heard));
-        }
-    };
-    let named = period.min(table.periods - 1);
-    if random.once_in(4) {
-        for signer in table.honest.iter().copied() {
-            enter(Entry::Backing { signer, period: named, board: Board::new() }, BTreeSet::new());
-        }
-    }
-    for _ in 0..3 * count {
-        let signer = random.between(1, table.n);
-        let period = [named, random.below(table.periods)][random.below(2)];
-        let board = random.some_of(50, 0..table.m()).into_iter().collect();
-        match random.below(4) {
-            0 => enter(Entry::Backing { signer, period, board }, BTreeSet::new()),
-            1 => enter(Entry::Board { period, board }, BTreeSet::new()),
-            _ => {
-                let heard = random.some_of(40, 1..=table.n).into_iter().collect();
-                enter(Entry::Hash { signer, period, board }, heard);
-            }
-        }
-    }
-    entries
-}
-
-/// These entries are the bag, and heard so.
-fn put(state: &mut State, entries: &[Heard]) {
-    state.bag = entries.iter().map(|(entry, _)| entry.clone()).collect();
-    for j in 1..=state.peers.len() {
-        let heard = (0..entries.len()).filter(|number| entries[*number].1.contains(&j));
-        state.peer_mut(j).heard = heard.collect();
-    }
+    let period = period.min(table.periods - 1);
+    let backing = |signer: &usize| Entry::Backing { signer: *signer, period, board: Board::new() };
+    let backed =
+        if random.once_in(4) { table.honest.iter().map(backing).collect() } else { vec![] };
+    entries(random, table, period, backed, 3 * count, BAG_SIZE)
 }

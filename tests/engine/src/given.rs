@@ -8,6 +8,7 @@ use crate::pair::{Call, Pair};
 use crate::Engine;
 use inputs::peers::Peers;
 use inputs::random::Random;
+use inputs::scattered::scattered;
 use inputs::tables::Shape;
 use reference::form::{write_step, Step, STEP_LENGTH};
 use reference::state::State;
@@ -124,8 +125,7 @@ impl Asked {
         let (peer, item) = (random.pick(alike).expect("a peer"), random.below(table.m()));
         let mut state = scattered(random, &table);
         put_case(random, &table, &mut state, &case, (peer, item));
-        let buffer = encode(&state);
-        Asked { case, pair: Pair { text, table, state, buffer }, peer, item }
+        Asked { case, pair: Pair::lent(text, state), peer, item }
     }
 
     pub fn step(&self) -> [u8; STEP_LENGTH] {
@@ -147,28 +147,6 @@ impl Asked {
         let (step, answer, after) = (&self.step()[..], self.case.due(), &self.after()[..]);
         Call { table, before, step, answer, after }.compare(engine)
     }
-}
-
-/// A state with anything anywhere, but for the bag.
-pub(crate) fn scattered(random: &mut Random, table: &Table) -> State {
-    let (n, periods, m) = (table.n, table.periods, table.m());
-    let pairs = || (0..periods).flat_map(move |q| (0..m).map(move |i| (q, i)));
-    let triples = || (1..=n).flat_map(move |k| pairs().map(move |(q, i)| (k, q, i)));
-    let mut state = State::fresh(table);
-    state.posted = random.some_of(70, 0..m).into_iter().collect();
-    state.signatures = random.some_of(30, triples()).into_iter().collect();
-    state.shares = random.some_of(30, triples()).into_iter().collect();
-    state.receipts = random.some_of(30, pairs()).into_iter().collect();
-    for peer in &mut state.peers {
-        peer.held = random.some_of(20, pairs()).into_iter().collect();
-        for (q, i) in pairs() {
-            random.some_of(60, 1..=n).into_iter().for_each(|k| peer.record(k, q, i));
-        }
-        peer.p = random.between(0, periods);
-        peer.c = random.between(0, peer.p);
-        peer.up = !random.once_in(4);
-    }
-    state
 }
 
 /// What the case says of the peer and the item.

@@ -1,6 +1,7 @@
 //! The engines beside the reference, on the same calls.
 
-use crate::layout::{encode, LENGTH};
+use crate::layout::{decode, encode, LENGTH};
+use crate::row14::is_state;
 use crate::{Engine, ENGINES};
 use inputs::random::Random;
 use reference::state::{Entry, State};
@@ -35,6 +36,15 @@ impl Pair {
             assert_eq!(fresh(&text, &mut bytes), 0, "{name}");
             assert!(bytes == buffer, "{name}: another fresh state");
         }
+        Pair { text, table, state, buffer }
+    }
+
+    /// A state that is lent, whose bytes row 14 lets pass and which they say.
+    pub fn lent(text: Vec<u8>, state: State) -> Pair {
+        let table = read_table(&text).expect("a valid table");
+        let buffer = encode(&state);
+        assert!(is_state(&table, &buffer), "no state of the table");
+        assert!(decode(&table, &buffer) == state, "the bytes say another state");
         Pair { text, table, state, buffer }
     }
 

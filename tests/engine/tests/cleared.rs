@@ -3,7 +3,6 @@
 
 use engine::cleared::Asked;
 use engine::layout::encode;
-use engine::row14::is_state;
 use engine::ENGINES;
 use inputs::answers::Answers;
 use inputs::random::{run_seed, Random};
@@ -15,7 +14,6 @@ const CASES: usize = 4_000;
 /// What is due comes, from the reference and from every engine.
 fn check(asked: &Asked, place: &str) {
     let Asked { pair, due, after, .. } = asked;
-    assert!(is_state(&pair.table, &pair.buffer), "{place}");
     let mut state = pair.state.clone();
     let answer = reference::step::step(&pair.table, &mut state, &asked.step());
     assert_eq!(answer, *due, "{place}, the reference");

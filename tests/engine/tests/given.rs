@@ -3,7 +3,6 @@
 
 use engine::given::{Asked, Case, COMBINATIONS};
 use engine::layout::encode;
-use engine::row14::is_state;
 use engine::ENGINES;
 use inputs::answers::Answers;
 use inputs::random::{run_seed, Random};
@@ -16,7 +15,6 @@ const ANY: usize = 5_000;
 /// What is due comes, from the reference and from every engine.
 fn check(asked: &Asked, place: &str) {
     let Asked { case, pair, .. } = asked;
-    assert!(is_state(&pair.table, &pair.buffer), "{place}: {case:?}");
     let mut state = pair.state.clone();
     let answer = reference::step::step(&pair.table, &mut state, &asked.step());
     assert_eq!(answer, case.due(), "{place}, the reference: {case:?}");

@@ -28,6 +28,7 @@
 //! - `step_files`: step files, to be counted
 //! - `closes`, with `earlier` and `exchange`: closes of a period that come through,
 //!   and such as lack something
+//! - `scattered`: states that no steps need lead to
 //! - `answers`: which answers the steps got
 //! - `sheets`: valid sheets, damaged ones, and other bytes
 //! - `stored`: the rehearsals that are stored, with their reports
@@ -55,6 +56,7 @@ pub mod random;
 pub mod refused;
 pub mod rehearsed;
 mod runs;
+pub mod scattered;
 pub mod seasons;
 pub mod sheets;
 pub mod sorts;
