@@ -1,12 +1,13 @@
 //! A close as all engines ran it: whether it has what document 02's P3 asks, seen
-//! from its calls and answers alone, and whether what P3 promises has come.
+//! from its calls and answers alone.
 
 use crate::pair::Pair;
 use inputs::closes::Close;
+use inputs::lent_closes::LentClose;
 use reference::form::{read_step, Step};
-use reference::state::{Board, Entry, State, BAG_SIZE};
-use reference::union::{union, union_board};
-use std::collections::{BTreeMap, BTreeSet};
+use reference::state::{Board, Entry, State};
+use reference::union::{union, union_board, Union};
+use std::collections::BTreeSet;
 
 /// A call of the exchange.
 pub struct Called {
@@ -15,8 +16,12 @@ pub struct Called {
     pub answer: u8,
     /// The hash that it sent or heard.
     hash: Option<Entry>,
-    /// Whether it is a backing of the period.
-    backs: bool,
+    /// The board that it backs, if it is a backing of the period.
+    pub(crate) backs: Option<Board>,
+    /// Whether that backing was in the bag before.
+    pub is_there: bool,
+    /// Whether the union of the databases after it is the one before the exchange.
+    pub(crate) same_union: bool,
 }
 
 /// A close that was run, with the state after it.
@@ -38,12 +43,22 @@ pub struct Ran {
 
 impl Ran {
     pub fn new(close: &Close) -> Ran {
-        let (mut pair, period) = (Pair::fresh(close.text.clone()), close.period);
+        let mut pair = Pair::fresh(close.text.clone());
         for bytes in &close.earlier {
             pair.call(bytes);
         }
+        Ran::on(pair, close.period, &close.later)
+    }
+
+    pub fn lent(close: &LentClose) -> Ran {
+        Ran::on(Pair::lent(close.text.clone(), close.state.clone()), close.period, &close.calls)
+    }
+
+    /// The calls of the exchange, from a state.
+    fn on(mut pair: Pair, period: usize, calls: &[Vec<u8>]) -> Ran {
         let (start, board) = (pair.state.clone(), union_board(&pair.table, &pair.state, period));
-        let calls = close.later.iter().map(|bytes| called(&mut pair, period, bytes)).collect();
+        let known = union(&start, period);
+        let calls = calls.iter().map(|bytes| called(&mut pair, period, &known, bytes)).collect();
         let (fetched, sent, heard) = (Vec::new(), Vec::new(), Vec::new());
         let mut ran = Ran { pair, period, start, board, calls, fetched, sent, heard };
         let peers = 1..=ran.pair.table.n;
@@ -77,13 +92,9 @@ impl Ran {
         let Some(last) = last.filter(|last| from.is_some_and(|from| from <= *last)) else {
             return BTreeSet::new();
         };
-        let hears = |call: &Called, sent: &Entry| match call.step {
-            Some(Step::Hear { peer: j, .. }) => j == peer && call.hash.as_ref() == Some(sent),
-            _ => false,
-        };
         let heard = |other: &usize| match &self.sent[*other - 1] {
             Some((at, sent)) if *at < last => {
-                self.calls[*at..last].iter().any(|call| hears(call, sent))
+                self.calls[*at..last].iter().any(|call| call.hears(peer, sent))
             }
             _ => false,
         };
@@ -104,7 +115,7 @@ impl Ran {
             ("none down", !self.any(|step| matches!(step, Step::Down { .. }))),
             ("never full", self.calls.iter().all(|call| call.answer != 13)),
             ("every fetch", self.fetched.iter().all(Option::is_some)),
-            ("no early backing", !self.early_back(|call| call.backs)),
+            ("no early backing", !self.early_back(|call| call.backs.is_some())),
             ("hashes after fetches", self.sent.iter().all(Option::is_some)),
             ("backs after fetches and hears", self.heard.iter().all(is_quorum)),
         ];
@@ -132,31 +143,51 @@ impl Ran {
         self.calls.iter().any(|call| call.answer == 0 && call.step.as_ref().is_some_and(&is))
     }
 
-    /// What P3 promises of the state after the exchange, or what is not so.
-    pub fn comes_through(&self) -> Result<(), String> {
-        if union(&self.pair.state, self.period) != union(&self.start, self.period) {
-            return Err("another union".to_string());
-        }
-        let backings = backings(&self.pair, self.period);
-        let signers: Vec<usize> = backings.values().map(|(signer, _)| *signer).collect();
-        let peers: BTreeSet<usize> = (1..=self.pair.table.n).collect();
-        if signers.len() != peers.len() || peers != signers.iter().copied().collect() {
-            return Err(format!("backed by {signers:?}"));
-        }
-        match backings.values().find(|(_, board)| *board != self.board) {
-            Some((signer, board)) => Err(format!("peer {signer} backs {board:?}")),
-            None => Ok(()),
+    /// Whether it is in document 02's own order: all fetches, then all hashes, then each
+    /// hears all of these, then each backs; and no backing before the last fetch.
+    pub fn is_in_turn(&self) -> bool {
+        self.backs_in_turn().is_some()
+    }
+
+    fn backs_in_turn(&self) -> Option<()> {
+        let (peers, period) = (1..=self.pair.table.n, self.period);
+        let fetched = self.fetched.iter().copied().collect::<Option<Vec<usize>>>()?;
+        let fetched = fetched.into_iter().max()?;
+        let hash = |peer| self.place(fetched, Step::Hash { peer, period });
+        let hashed = peers.clone().map(hash).collect::<Option<Vec<usize>>>()?;
+        let after = hashed.iter().max()? + 1;
+        let hears = |j: usize, at: &usize| {
+            let sent = self.calls[*at].hash.as_ref()?;
+            (after..self.calls.len()).find(|at| self.calls[*at].hears(j, sent))
+        };
+        let heard = peers.clone().flat_map(|j| hashed.iter().map(move |at| hears(j, at)));
+        let after = heard.collect::<Option<Vec<usize>>>()?.into_iter().max()? + 1;
+        let mut backs = peers.map(|peer| self.place(after, Step::Back { peer }));
+        let early = self.calls[..fetched].iter().any(|call| call.backs.is_some());
+        (!early && backs.all(|place| place.is_some())).then_some(())
+    }
+}
+
+impl Called {
+    /// Whether a peer hears this hash by it.
+    fn hears(&self, peer: usize, sent: &Entry) -> bool {
+        match self.step {
+            Some(Step::Hear { peer: j, .. }) => j == peer && self.hash.as_ref() == Some(sent),
+            _ => false,
         }
     }
 }
 
 /// One call, and what there is to see of it.
-fn called(pair: &mut Pair, period: usize, bytes: &[u8]) -> Called {
+fn called(pair: &mut Pair, period: usize, known: &Union, bytes: &[u8]) -> Called {
     let step = read_step(bytes).ok();
-    let due = match step {
-        Some(Step::Back { peer }) => pair.state.peers.get(peer.wrapping_sub(1)).map(|peer| peer.c),
+    let backing = match step {
+        Some(Step::Back { peer }) if (1..=pair.table.n).contains(&peer) => {
+            backing_due(pair, period, peer)
+        }
         _ => None,
     };
+    let is_there = backing.as_ref().is_some_and(|(entry, _)| pair.state.bag.contains(entry));
     let answer = pair.call(bytes);
     let hash = match step {
         Some(Step::Hash { peer: signer, period }) if answer == 0 => {
@@ -166,32 +197,14 @@ fn called(pair: &mut Pair, period: usize, bytes: &[u8]) -> Called {
         Some(Step::Hear { entry, .. }) if answer == 0 => pair.state.bag.get(entry).cloned(),
         _ => None,
     };
-    Called { step, answer, hash, backs: answer == 0 && due == Some(period) }
+    let backs = backing.filter(|_| answer == 0).map(|(_, board)| board);
+    let is_there = is_there && backs.is_some();
+    Called { step, answer, hash, backs, is_there, same_union: union(&pair.state, period) == *known }
 }
 
-/// The backings of a period, by their numbers: signer and board.
-pub fn backings(pair: &Pair, period: usize) -> BTreeMap<usize, (usize, Board)> {
-    let backing = |(e, entry): (usize, &Entry)| match entry {
-        Entry::Backing { signer, period: q, board } if *q == period => {
-            Some((e, (*signer, board.clone())))
-        }
-        _ => None,
-    };
-    pair.state.bag.iter().enumerate().filter_map(backing).collect()
-}
-
-/// The boards of a period.
-pub fn boards(pair: &Pair, period: usize) -> Vec<Board> {
-    let boards = pair.state.boards().into_iter().filter(|(q, _)| *q == period);
-    boards.map(|(_, board)| board).collect()
-}
-
-/// The answer that a publish of a board of the period should get.
-pub fn due_answer(pair: &Pair, period: usize) -> u8 {
-    let full = pair.state.bag.len() == BAG_SIZE && boards(pair, period).is_empty();
-    if full {
-        13
-    } else {
-        0
-    }
+/// The backing that a peer would send, if it is of the period, and its board.
+fn backing_due(pair: &Pair, period: usize, signer: usize) -> Option<(Entry, Board)> {
+    let peer = pair.state.peer(signer);
+    let board = peer.board(&pair.table, period);
+    (peer.c == period).then(|| (Entry::Backing { signer, period, board: board.clone() }, board))
 }

@@ -10,7 +10,8 @@
 //! - `shrunk`: the same for rehearsals cut down, and what is promised of them
 //! - `given`: shares on lent states, and what is due
 //! - `cleared`: clears on lent states, likewise
-//! - `closes`: closes of a period, run so: what was asked of them, and what came
+//! - `closes`: closes of a period, run so, and what was asked of them
+//! - `through`, `seen`: what came of them, and what they were like
 //! - `altered`: tables and sheets with other texts for their items
 //! - `wrong_shares`: engines that judge by another rule what was given
 //! - `wrong_clears`: engines that clear at another time, or something else
@@ -30,9 +31,11 @@ pub mod lent;
 pub mod pair;
 pub mod program;
 pub mod row14;
+pub mod seen;
 pub mod sheets;
 pub mod shrunk;
 pub mod tables;
+pub mod through;
 pub mod wrong_clears;
 pub mod wrong_gains;
 pub mod wrong_readers;

@@ -11,6 +11,7 @@ use reference::form::{read_step, write_step, Step};
 use reference::season::Season;
 use reference::state::{Board, Entry, BAG_SIZE};
 use reference::step::step;
+use reference::union::union;
 use std::collections::BTreeSet;
 
 /// A close of a period: the calls up to it, and those of the exchange.
@@ -39,11 +40,26 @@ pub enum Lack {
     AllUp,
 }
 
+/// Which takes of the period may be accepted during the exchange.
+#[derive(Clone, Copy, Debug, PartialEq, Eq)]
+pub enum Takes {
+    /// Any, as they come.
+    Any,
+    /// Some, of what is outside.
+    Some,
+    /// Some, of what some peer's database of the period has.
+    Known,
+    None,
+}
+
 /// A close in the making.
 pub(crate) struct Closing<'a, 'b> {
     pub making: &'b mut Making<'a>,
     pub period: usize,
     pub lack: Lack,
+    pub takes: Takes,
+    /// Whether it is in document 02's own order.
+    pub in_turn: bool,
     /// The periods that all peers have backed.
     pub settled: usize,
     /// The board of the union, once the exchange can begin.
@@ -57,25 +73,33 @@ pub(crate) struct Closing<'a, 'b> {
 /// A close that lacks nothing, by its number: of every number of peers and every
 /// threshold in turn, without weights and with them, and more often of few peers.
 pub fn close(random: &mut Random, number: usize) -> Close {
-    let (turn, fills) = (number / 8, number % 64 == 32);
+    let fills = number % 64 == 32;
+    let (peers, t) = peers_by_number(random, number, if fills { 4 } else { 1 });
+    let n = peers.weights.len();
+    if fills {
+        let shape = Shape { n, periods: 8, m: random.between(40, 64) };
+        let free = [0, random.between(1, 6)][number / 64 % 2];
+        return make(random, shape, &peers, t, Some(free), Lack::Nothing);
+    }
+    let shape = Shape { n, ..Shape::random(random, 1) };
+    make(random, shape, &peers, t, None, Lack::Nothing)
+}
+
+/// The peers of a close and their threshold: of every number of peers in turn, or of
+/// these fewest to six.
+pub(crate) fn peers_by_number(random: &mut Random, number: usize, fewest: usize) -> (Peers, usize) {
+    let turn = number / 8;
     let in_turn = [Season::Old, Season::Weighted, Season::New, Season::Weighted][turn / 16 % 4];
     let (n, season) = match number % 8 {
         7 => (1 + turn % 16, in_turn),
-        0 if fills => (random.between(4, 6), random_season(random)),
-        _ => (random.between(1, 6), random_season(random)),
+        _ => (random.between(fewest, 6), random_season(random)),
     };
     let peers = Peers::of(random, season, n);
     let t = match number % 8 {
         7 => peers.least() + turn / 32 % (peers.sum() - peers.least() + 1),
         _ => peers.threshold(random),
     };
-    if fills {
-        let shape = Shape { n, periods: 8, m: random.between(40, 64) };
-        let free = [0, random.between(1, 6)][turn / 8 % 2];
-        return make(random, shape, &peers, t, Some(free), Lack::Nothing);
-    }
-    let shape = Shape { n, ..Shape::random(random, 1) };
-    make(random, shape, &peers, t, None, Lack::Nothing)
+    (peers, t)
 }
 
 /// A close that lacks something, unless the calls between make up for it.
@@ -110,8 +134,9 @@ fn make(
     let mut making = Making::on(random, text);
     let unready = making.honest().into_iter().collect();
     let making = &mut making;
-    let (board, fallen) = (None, None);
-    let mut closing = Closing { making, period, lack, settled: 0, board, unready, fallen };
+    let (takes, in_turn, board, fallen) = (Takes::Any, false, None, None);
+    let mut closing =
+        Closing { making, period, lack, takes, in_turn, settled: 0, board, unready, fallen };
     closing.prepare();
     free.into_iter().for_each(|free| closing.fill(free));
     let start = closing.making.steps.len();
@@ -144,18 +169,41 @@ impl Closing<'_, '_> {
         }
     }
 
-    /// Whether a call may stand here: it takes no entry that is needed, brings
+    /// Whether a call may stand here: it uses no entry that is needed, brings
     /// nobody down during the exchange nor up who stays down, is no backing of the
-    /// period by a peer that has to fetch first, and clears nothing that it should not.
+    /// period by a peer that has to fetch first, and takes and clears nothing that it
+    /// should not.
     fn may(&self, bytes: &[u8]) -> bool {
         let has_room = || self.making.state.bag.len() + self.needed() < BAG_SIZE;
         match read_step(bytes) {
             Ok(Step::Down { peer }) => self.board.is_none() || !self.making.table.is_honest(peer),
             Ok(Step::Up { peer }) => self.fallen != Some(peer),
             Ok(Step::Back { peer }) => has_room() && !self.backs_early(peer, bytes),
-            Ok(Step::Hash { .. } | Step::Publish { .. }) => has_room(),
+            Ok(Step::Hash { period, .. }) => has_room() && self.may_hash(period),
+            Ok(Step::Publish { .. }) => has_room(),
             Ok(Step::Clear { period }) => self.may_clear(period) || !self.is_taken(bytes),
+            Ok(Step::Take { other, period, item, .. }) if period == self.period => {
+                self.may_take(other, item) || !self.is_taken(bytes)
+            }
             _ => true,
+        }
+    }
+
+    /// Whether a hash may be sent here: not one of the period where what is taken would
+    /// make it another than that of the exchange.
+    fn may_hash(&self, period: usize) -> bool {
+        self.takes != Takes::Some || period != self.period
+    }
+
+    /// Whether a signature of the period may be taken here.
+    pub fn may_take(&self, signer: usize, item: usize) -> bool {
+        match self.takes {
+            Takes::Any | Takes::Some => true,
+            Takes::Known => {
+                let union = union(&self.making.state, self.period);
+                union.get(&item).is_some_and(|signers| signers.contains(&signer))
+            }
+            Takes::None => false,
         }
     }
 

@@ -1,7 +1,7 @@
 //! The exchange of a close: every peer fetches from every other, sends its hash,
 //! hears hashes and backs, in any order that serves and with other calls between.
 
-use crate::closes::{is_hash, Closing, Lack};
+use crate::closes::{is_hash, Closing, Lack, Takes};
 use crate::making::Making;
 use crate::peers::quorum_of;
 use reference::form::Step;
@@ -29,6 +29,9 @@ struct Times {
 /// How long a part of the exchange takes, and when all that is not late is over.
 const SPAN: usize = 1_000;
 const LATE: usize = 20 * SPAN;
+
+/// The order of document 02, where all peers hear all hashes.
+const PART_BY_PART: usize = 1;
 
 /// What is drawn for a close: its order, whom each peer hears, and what it lacks.
 struct Draw {
@@ -73,17 +76,41 @@ impl Closing<'_, '_> {
             if self.making.random.chance(noise) {
                 self.roam(2);
             }
+            if [Takes::Some, Takes::Known].contains(&self.takes) && self.making.random.once_in(3) {
+                self.take_one();
+            }
             self.perform(tasks[at], &mut sent);
-            let fetcher = |task: &Task| match task {
-                Task::Fetch { peer, .. } => Some(*peer),
-                _ => None,
-            };
-            self.unready = tasks[at + 1..].iter().filter_map(fetcher).collect();
+            self.unready = self.unready_before(&tasks[at + 1..]);
         }
         if self.making.random.once_in(4) && !self.is_nearly_full() {
             self.call(Step::Clear { period: self.period });
         }
         self.roam(6);
+    }
+
+    /// Some peer takes a signature of the period that is outside and may be taken.
+    fn take_one(&mut self) {
+        let period = self.period;
+        let may = |(k, q, i): &(usize, usize, usize)| *q == period && self.may_take(*k, *i);
+        let outside: Vec<_> = self.making.state.signatures.iter().copied().filter(may).collect();
+        let peer = self.making.random.between(1, self.making.table.n);
+        if let Some((other, _, item)) = self.making.random.pick(outside.into_iter()) {
+            self.call(Step::Take { peer, other, period, item });
+        }
+    }
+
+    /// Who has to fetch before it backs the period, by what is still to be done: in
+    /// document 02's order nobody backs before the last fetch of all.
+    fn unready_before(&self, tasks: &[Task]) -> BTreeSet<usize> {
+        let fetcher = |task: &Task| match task {
+            Task::Fetch { peer, .. } => Some(*peer),
+            _ => None,
+        };
+        let fetchers: BTreeSet<usize> = tasks.iter().filter_map(fetcher).collect();
+        match self.in_turn && !fetchers.is_empty() {
+            true => (1..=self.making.table.n).collect(),
+            false => fetchers,
+        }
     }
 
     fn perform(&mut self, task: Task, sent: &mut BTreeMap<usize, Entry>) {
@@ -137,11 +164,11 @@ impl Closing<'_, '_> {
     }
 
     fn draw(&mut self) -> Draw {
-        let lack = self.lack;
+        let (lack, in_turn) = (self.lack, self.in_turn);
         let Making { random, table, .. } = &mut *self.making;
         let n = table.n;
         // Of those whom a peer hears beyond a quorum.
-        let more = [100, 0, random.below(100)][random.below(3)];
+        let more = if in_turn { 100 } else { [100, 0, random.below(100)][random.below(3)] };
         let but_own = [Lack::OwnHash, Lack::BackAfterFetches].contains(&lack);
         let mut heard = |peer: usize| {
             let others = || (1..=n).filter(|other| !but_own || *other != peer);
@@ -151,7 +178,8 @@ impl Closing<'_, '_> {
         let hears = (1..=n).map(&mut heard).collect();
         let peers = random.drawn(1..=n);
         let (peer, other) = (peers[0], peers[1 % n]);
-        Draw { order: random.below(3), hears, lack, peer, other, all: random.once_in(2) }
+        let order = if in_turn { PART_BY_PART } else { random.below(3) };
+        Draw { order, hears, lack, peer, other, all: random.once_in(2) }
     }
 
     /// Every task in its order: each has a random time, or if that is later the

@@ -28,7 +28,8 @@
 //! - `step_files`: step files, to be counted
 //! - `closes`, with `earlier` and `exchange`: closes of a period that come through,
 //!   and such as lack something
-//! - `scattered`: states that no steps need lead to
+//! - `scattered`, with `lent_closes`: states that no steps need lead to, and closes from
+//!   such states
 //! - `answers`: which answers the steps got
 //! - `sheets`: valid sheets, damaged ones, and other bytes
 //! - `stored`: the rehearsals that are stored, with their reports
@@ -44,6 +45,7 @@ mod earlier;
 mod exchange;
 pub mod given;
 pub mod kinds;
+pub mod lent_closes;
 pub mod making;
 mod odd;
 mod offers;

@@ -23,6 +23,11 @@ impl<'a> Making<'a> {
         Making { random, text, table, state, steps: Vec::new() }
     }
 
+    /// The same on a state that is lent.
+    pub fn lent(random: &'a mut Random, text: Vec<u8>, state: State) -> Making<'a> {
+        Making { state, ..Making::on(random, text) }
+    }
+
     /// One call more, with any bytes. As a part of an input they must be 13.
     pub fn call_any(&mut self, bytes: Vec<u8>) {
         step(&self.table, &mut self.state, &bytes);

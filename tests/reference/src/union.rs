@@ -5,9 +5,12 @@ use crate::state::{Board, State};
 use crate::table::Table;
 use std::collections::{BTreeMap, BTreeSet};
 
-/// The union of all peers' databases of a period: signer sets by item.
-pub fn union(state: &State, period: usize) -> BTreeMap<usize, BTreeSet<usize>> {
-    let mut union: BTreeMap<usize, BTreeSet<usize>> = BTreeMap::new();
+/// Signer sets by item.
+pub type Union = BTreeMap<usize, BTreeSet<usize>>;
+
+/// The union of all peers' databases of a period.
+pub fn union(state: &State, period: usize) -> Union {
+    let mut union = Union::new();
     for peer in &state.peers {
         for ((q, item), signers) in &peer.database {
             if *q == period {
