@@ -20,6 +20,7 @@
 //! - `wrong_weights`: engines that ask other quorums of peers with weights
 //! - `wrong_readers`: engines that read weights otherwise
 //! - `wrong_reports`: engines that show weights for numbers of peers
+//! - `wrong_totals`: engines that count something else at the report's foot
 //! - `program`: the proved programs, from input to output
 
 pub mod altered;
@@ -42,6 +43,7 @@ pub mod wrong_readers;
 pub mod wrong_reports;
 pub mod wrong_shares;
 pub mod wrong_shrinkers;
+pub mod wrong_totals;
 pub mod wrong_weights;
 
 /// An engine over lent bytes.

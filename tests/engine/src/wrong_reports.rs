@@ -12,13 +12,24 @@ type Last = fn(&Table, &State, &[&str]) -> Option<usize>;
 
 /// The true report but for such numbers: its length.
 fn rehearse(input: &[u8], state: &mut [u8], out: &mut [u8], last: Last) -> usize {
+    with_lines(input, state, out, |table, held, line| with_last(table, held, line, last))
+}
+
+/// The report with each line changed, by the table and the state after the last step;
+/// as it is where the input is refused. Its length.
+pub(crate) fn with_lines(
+    input: &[u8],
+    state: &mut [u8],
+    out: &mut [u8],
+    change: impl Fn(&Table, &State, &str) -> String,
+) -> usize {
     let mut report = vec![0; board_report_most()];
     let length = (PLAIN.rehearse)(input, state, &mut report);
     let mut text = String::from_utf8(report[..length].to_vec()).expect("a report in ASCII");
     if !text.starts_with("refused ") {
         let (table, _) = read_front(input).expect("a table that was taken");
         let held = decode(&table, state);
-        text = text.lines().map(|line| with_last(&table, &held, line, last) + "\n").collect();
+        text = text.lines().map(|line| change(&table, &held, line) + "\n").collect();
     }
     let fits = text.len().min(out.len());
     out[..fits].copy_from_slice(&text.as_bytes()[..fits]);

@@ -5,6 +5,7 @@ use engine::altered::must_be_found;
 use engine::layout::{encode, LENGTH};
 use engine::lent::Lent;
 use engine::wrong_reports::{RIGHT_REPORT, WRONG_REPORTS};
+use engine::wrong_totals::{RIGHT_TOTALS, WRONG_ITEMS, WRONG_POSTS, WRONG_RECEIPTS};
 use engine::{board_report_most, Engine, ENGINES, PLAIN};
 use inputs::answers::Answers;
 use inputs::kinds::{rehearsal, round};
@@ -134,24 +135,30 @@ fn another_report_is_found() {
     assert_eq!((compare(&PLAIN).is_ok(), compare(&wrong).is_err()), (true, true));
 }
 
-/// Weights that are shown for numbers of peers are found.
+/// Weights that are shown for numbers of peers are found, and what is counted wrong at the
+/// foot.
 #[test]
-fn every_weight_on_a_report_is_found() {
-    let seed = run_seed();
-    let found = |engine: &Engine| {
-        let differs = |number: &usize| {
-            let input = rehearsal(seed, *number).1;
-            let (expected, random) =
-                (Expected::of(&Rehearsed::new(&input)), &mut Random::new(seed, 0));
-            let room = expected.report.len();
-            call(engine, random, &input, &expected, LENGTH, room).is_err()
-        };
-        (0..round()).filter(differs).count()
-    };
-    for engine in WRONG_REPORTS {
-        must_be_found(engine.name, found(&engine));
+fn every_wrong_report_is_found() {
+    let wrong = [&WRONG_REPORTS[..], &WRONG_POSTS, &WRONG_RECEIPTS, &WRONG_ITEMS].concat();
+    let right = [RIGHT_REPORT, RIGHT_TOTALS];
+    let times = found(run_seed(), &[&wrong[..], &right].concat());
+    wrong.iter().zip(&times).for_each(|(engine, times)| must_be_found(engine.name, *times));
+    assert_eq!(times[wrong.len()..], [0; 2]);
+}
+
+/// In how many rehearsals of the first round each engine differs.
+fn found(seed: u64, engines: &[Engine]) -> Vec<usize> {
+    let mut times = vec![0; engines.len()];
+    for number in 0..round() {
+        let input = rehearsal(seed, number).1;
+        let expected = Expected::of(&Rehearsed::new(&input));
+        let (room, random) = (expected.report.len(), &mut Random::new(seed, 0));
+        for (at, engine) in engines.iter().enumerate() {
+            let differs = call(engine, random, &input, &expected, LENGTH, room).is_err();
+            times[at] += differs as usize;
+        }
     }
-    assert_eq!(found(&RIGHT_REPORT), 0);
+    times
 }
 
 #[test]
