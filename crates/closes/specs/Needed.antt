@@ -8,7 +8,7 @@ use Rattle.form.specs.Written.{written}
 use Rattle.liveness.specs.Places.{Behaviour}
 use Rattle.closes.specs.Runs.{earlier2}
 
--- a backing before the last fetch
+-- a backing before the last fetch (backed-too-early)
 abbrev pub earlyBacking : List (List ℕ)
 earlyBacking =
     written (SendHash 1 0)  -- of no items: entry 0

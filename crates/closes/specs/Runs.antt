@@ -84,7 +84,7 @@ inTurn2 =
     ∷ written (Back 2)  -- entry 3
     ∷ []
 
--- Four peers, three of which are needed (comes-through): item 0 has three signers in four databases, item 1 has one.
+-- Four peers, three of which are needed: item 0 has three signers in four databases, item 1 has one.
 abbrev pub table4 : List ℕ
 table4 = votesOver 2 4 3 4
 
@@ -106,7 +106,7 @@ earlier4 =
     ∷ written (Close 4)
     ∷ []
 
--- peer after peer, with calls of period 1, refused ones and an older hash between
+-- peer after peer, with calls of period 1, refused ones and an older hash between (comes-through)
 abbrev pub later4 : List (List ℕ)
 later4 =
     written (SendHash 4 0)  -- an older hash, of the board of no items: entry 0
@@ -217,7 +217,7 @@ earlierW =
     ∷ written (Sign 4 1)
     ∷ forPeers 4 Close))))))
 
--- each hears the hashes of peers 1 and 2 alone, which weigh 5
+-- each hears the hashes of peers 1 and 2 alone, which weigh 5 (weights-close)
 abbrev pub laterW : List (List ℕ)
 laterW =
     fetchAndHash 4 1  -- the hashes are entries 8 to 11
@@ -236,6 +236,6 @@ planW = record {
   board = λ k. 1;
 }
 
--- peer 2 hears the hashes of peers 2, 3 and 4, which weigh 3
+-- peer 2 hears the hashes of peers 2, 3 and 4, which weigh 3 (weights-close)
 abbrev pub lightW : List (List ℕ)
 lightW = fetchAndHash 4 1 ++ (written (Hear 2 9) ∷ written (Hear 2 10) ∷ written (Hear 2 11) ∷ [])
