@@ -191,8 +191,8 @@ planByOthers4 = record {
   board = λ k. 1;
 }
 
--- Four peers of weights 4, 1, 1 and 1, of which a weight of 5 is needed, and their second period, after the close of the
--- first, whose board is empty. Item 0 has the signatures of peers 1 and 2, item 1 those of peers 2, 3 and 4.
+-- Four peers of weights 4, 1, 1 and 1, of which a weight of 5 is needed, and their second period, after the close of
+-- the first, whose board is empty. Item 0 has the signatures of peers 1 and 2, item 1 those of peers 2, 3 and 4.
 abbrev pub tableW : List ℕ
 tableW = carryTable 15
 

@@ -1,5 +1,5 @@
--- What `fresh`, `write_sheet`, `rehearse` and `hang` answer and leave, by what an engine sees of a table: an engine that
--- reads tables as an older one did, and this one on tables that are not newer than it.
+-- What `fresh`, `write_sheet`, `rehearse` and `hang` answer and leave, by what an engine sees of a table: an engine
+-- that reads tables as an older one did, and this one on tables that are not newer than it.
 use Prim.Native.Nat.{ℕ, zero, suc, _+_, _-_, _*_, _/_, _<_}
 use mathlib.Core.Bool.{Bool, cond, not, _&&_}
 use mathlib.Core.List.{List, [], _∷_, _++_}
