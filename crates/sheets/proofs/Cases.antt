@@ -2,6 +2,7 @@
 use mathlib.Core.Path.{refl}
 use Rattle.base.specs.Bytes.{numberAt, part, sameBytes}
 use Rattle.base.specs.Below.{every}
+use Rattle.base.specs.Tab.{tab}
 use Rattle.base.specs.Refusals.{first}
 use Rattle.pairs.specs.Pairs.{endBefore, startsAtEnd, pairsFit, pairsOk}
 use Rattle.twins.specs.Twins.{differ, newAt, twinless}
@@ -13,7 +14,7 @@ use Rattle.sheets.specs.Cases.{SheetCases}
 
 pub sheet-cases : SheetCases
 unfolding sheetAnswer itemAnswer found handedOut sheetOk sheetOf pairsFrom joined pairsOk pairsFit startsAtEnd endBefore
-    allItems itemAt isItem readItem readKind twinless newAt differ first every numberAt part sameBytes
+    allItems itemAt isItem readItem readKind twinless newAt differ first every tab numberAt part sameBytes
 sheet-cases = record {
   case-r = refl;
   case-r-made = refl;
@@ -34,6 +35,7 @@ sheet-cases = record {
   no-bytes = refl;
   one-byte = refl;
   period-8 = refl;
+  count-64 = refl;
   count-65 = refl;
   tail = refl;
   tables-offset = refl;

@@ -2,6 +2,7 @@
 use Prim.Native.Nat.{ℕ}
 use mathlib.Core.List.{List, [], _∷_, _++_}
 use mathlib.Core.Path.{_≡_}
+use Rattle.base.specs.Tab.{tab}
 use Rattle.sheets.specs.Made.{sheetOf}
 use Rattle.sheets.specs.Found.{sheetAnswer, found, handedOut}
 use Rattle.sheets.specs.declared.Found.the-variants.{Part, Refused}
@@ -32,6 +33,10 @@ three = 7 ∷ 3 ∷ 0 ∷ 14 ∷ 0 ∷ 6 ∷ 0 ∷ 20 ∷ 0 ∷ 5 ∷ 0 ∷ 25 �
 abbrev pub mixed : List ℕ
 mixed = 0 ∷ 2 ∷ 0 ∷ 10 ∷ 0 ∷ 5 ∷ 0 ∷ 15 ∷ 0 ∷ 6 ∷ (audit ++ placed)
 
+-- the sheet of period 0 with an audit of each of n ballots, 0 to n - 1: right in everything, but for how many they are
+abbrev pub audits : ℕ → List ℕ
+audits n = sheetOf 0 (tab n (λ k. 0 ∷ 0 ∷ 0 ∷ k ∷ 2 ∷ []))
+
 pub record SheetCases : Type 0 where
   pub case-r : sheetAnswer sheetR ≡ 0
   pub case-r-made : sheetOf 0 (audit ∷ []) ≡ sheetR
@@ -56,7 +61,9 @@ pub record SheetCases : Type 0 where
   pub no-bytes : sheetAnswer [] ≡ 16
   pub one-byte : sheetAnswer (0 ∷ []) ≡ 16
   pub period-8 : sheetAnswer (8 ∷ 0 ∷ []) ≡ 16
-  pub count-65 : sheetAnswer (0 ∷ 65 ∷ []) ≡ 16
+  -- 65 items, of which 64 would be a sheet
+  pub count-64 : sheetAnswer (audits 64) ≡ 0
+  pub count-65 : sheetAnswer (audits 65) ≡ 16
   pub tail : sheetAnswer (sheetR ++ (0 ∷ [])) ≡ 16
   pub tables-offset : sheetAnswer (0 ∷ 1 ∷ 0 ∷ 10 ∷ 0 ∷ 5 ∷ 0 ∷ 0 ∷ 0 ∷ 0 ∷ audit) ≡ 16
   pub kind-4 : sheetAnswer (0 ∷ 1 ∷ 0 ∷ 6 ∷ 0 ∷ 5 ∷ 0 ∷ 0 ∷ 0 ∷ 7 ∷ 4 ∷ []) ≡ 16
