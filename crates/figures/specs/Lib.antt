@@ -1,2 +1,3 @@
 pub mod Totals
 pub mod Entries
+pub mod Cases

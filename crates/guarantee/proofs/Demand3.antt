@@ -47,4 +47,6 @@ module _ (table : List ℕ) (fit : refusal table ≡ 0) where
   }
 
 pub demand-3-on-bytes : (table : List ℕ) → HonestEnough table → AlwaysSafe table
-demand-3-on-bytes table H = demand-3 (bytes-follow table (H .taken)) (premise table (H .taken) (H .honest))
+demand-3-on-bytes table H =
+    let enough : thresholdOf table ≤ honestWeight (headOf table) = omega (arith, H .honest) in
+    demand-3 (bytes-follow table (H .taken)) (premise table (H .taken) enough)

@@ -63,8 +63,19 @@ fn pass(
     let mut dropped = false;
     let mut k = last;
     while 0 < k {
+        dropped = try_step(
+            input,
+            table,
+            h,
+            rows,
+            last,
+            wanted,
+            k - 1,
+            dropped,
+            flags,
+            s,
+        );
         k -= 1;
-        dropped = try_step(input, table, h, rows, last, wanted, k, dropped, flags, s);
     }
     dropped
 }

@@ -36,6 +36,7 @@ pass-spec =
     (λ c. search needs)
     (λ c κs. search needs)
     (λ c. search needs)
+    (λ c. search needs)
     loop-again
     (λ c. search needs)
     (λ c. search needs)
