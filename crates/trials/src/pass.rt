@@ -63,18 +63,8 @@ fn pass(
     let mut dropped = false;
     let mut k = last;
     while 0 < k {
-        dropped = try_step(
-            input,
-            table,
-            h,
-            rows,
-            last,
-            wanted,
-            k - 1,
-            dropped,
-            flags,
-            s,
-        );
+        let step = k - 1;
+        dropped = try_step(input, table, h, rows, last, wanted, step, dropped, flags, s);
         k -= 1;
     }
     dropped
