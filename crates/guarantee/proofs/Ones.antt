@@ -10,6 +10,7 @@ use lib.ListN.{length, length-drop}
 use borrow.Author.Tests.{ne-eqb}
 use Rattle.base.specs.Refusals.{name, unknown, numbered, first}
 use Rattle.base.proofs.Truth.{and-l}
+use Rattle.header.specs.declared.Head.{Head}
 use Rattle.header.specs.Season.{zeroThen}
 use Rattle.header.specs.Header.{peersOf, weightIn, headOf, honestCount}
 use Rattle.ballot.specs.Table.{refusal, itemText}
@@ -21,7 +22,6 @@ use Rattle.engine.specs.Engine.{stepAnswer, stepBytes}
 use Rattle.rules.specs.Ideal.{hasBoard}
 use Rattle.rehearsal.specs.Input.{inputMost, tableIn, tableThere, inputRefusal, stepCount, callAt}
 use Rattle.rehearsal.specs.Rehearsal.{stateAt, stepAt, lastState, reportOf, lentRefusal, reported, stateLeft}
-use Rattle.printing.specs.declared.Written.the-variants.{Refused}
 use Rattle.rehearsal.proofs.Taking as rehearsed
 use Rattle.printing.specs.Board.{boardsOn}
 use Rattle.printing.specs.Written.{sheetFor, written, sheetLeft}
@@ -37,50 +37,42 @@ use Rattle.guarantee.proofs.Seasons.{steps-as-second}
 use Rattle.guarantee.proofs.Seeing.{fresh-answers, fresh-leaves, sheet-seen, written-seen, left-seen, in-turn}
 use Rattle.guarantee.proofs.Inputs.{tables-same, inputs-alike, count-alike, call-alike, not-too-long, right-there}
 
--- fresh and write_sheet: a table that is refused is answered with its refusal
-
-module _ (table s : List ℕ) (period r : ℕ) (e : refusal table ≡ r) (n : r ≡ 0 → ⊥) where
-  refused-seeing : (room : ℕ) → writtenSeeing (refusal table) (headOf table) (itemText table) s period room ≡ Refused r
-  refused-seeing room = rw (e, ne-eqb r 0 n, ne-eqb r 0 n)
-
-  refused-written : (room : ℕ) → written table s period room ≡ Refused r
-  refused-written room = written-seen table s period room ∙ refused-seeing room
-
-  left-seeing : (buffer : List ℕ) → sheetLeftSeeing (refusal table) (headOf table) (itemText table) s period buffer ≡ buffer
-  left-seeing buffer = rw (e, ne-eqb r 0 n, ne-eqb r 0 n)
-
-  refused-left : (buffer : List ℕ) → sheetLeft table s period buffer ≡ buffer
-  refused-left buffer = left-seen table s period buffer ∙ left-seeing buffer
+-- fresh and write_sheet
 
 module _ (table other : List ℕ) (A : AsSecond table other) where
-  module _ (s : List ℕ) (period : ℕ) where
-    same-written : Dec (refusal other ≡ 0) → (room : ℕ) → written table s period room ≡ written other s period room
-    same-written (yes taken) room =
-        written-seen table s period room
-        ∙ (λ i. writtenSeeing (A .judged i) (A .head i) (λ k. A .text taken k i) s period room)
-        ∙ sym (written-seen other s period room)
-    same-written (no refused) room =
-        refused-written table s period (refusal other) (A .judged) refused room
-        ∙ sym (refused-written other s period (refusal other) refl refused room)
+  -- what looks at a table's refusal, its header and its texts, and where it is refused at nothing else, is the same
+  looked-alike : {B : Type 0} (f : ℕ → Head → (ℕ → List ℕ) → B)
+      → ((r : ℕ) (h g : Head) (a b : ℕ → List ℕ) → (r ≡ 0 → ⊥) → f r h a ≡ f r g b)
+      → f (refusal table) (headOf table) (itemText table) ≡ f (refusal other) (headOf other) (itemText other)
+  looked-alike {B} f refused = go (ℕ-discrete (refusal other) 0)
+    where
+      go : Dec (refusal other ≡ 0) → f (refusal table) (headOf table) (itemText table) ≡ f (refusal other) (headOf other) (itemText other)
+      go (yes taken) = λ i. f (A .judged i) (A .head i) (λ k. A .text taken k i)
+      go (no n) =
+          ap (λ (r : ℕ). f r (headOf table) (itemText table)) (A .judged)
+          ∙ refused (refusal other) (headOf table) (headOf other) (itemText table) (itemText other) n
 
-    same-left : Dec (refusal other ≡ 0) → (buffer : List ℕ) → sheetLeft table s period buffer ≡ sheetLeft other s period buffer
-    same-left (yes taken) buffer =
+  module _ (s : List ℕ) (period : ℕ) where
+    same-written : (room : ℕ) → written table s period room ≡ written other s period room
+    same-written room =
+        written-seen table s period room
+        ∙ looked-alike (λ r h text. writtenSeeing r h text s period room) (λ r h g a b n. rw (ne-eqb r 0 n, ne-eqb r 0 n))
+        ∙ sym (written-seen other s period room)
+
+    same-left : (buffer : List ℕ) → sheetLeft table s period buffer ≡ sheetLeft other s period buffer
+    same-left buffer =
         left-seen table s period buffer
-        ∙ (λ i. sheetLeftSeeing (A .judged i) (A .head i) (λ k. A .text taken k i) s period buffer)
+        ∙ looked-alike (λ r h text. sheetLeftSeeing r h text s period buffer) (λ r h g a b n. rw (ne-eqb r 0 n, ne-eqb r 0 n))
         ∙ sym (left-seen other s period buffer)
-    same-left (no refused) buffer =
-        refused-left table s period (refusal other) (A .judged) refused buffer
-        ∙ sym (refused-left other s period (refusal other) refl refused buffer)
 
 pub calls-as-second : (table other : List ℕ) → SameButOnes table other → CallsAsSecond table other
 calls-as-second table other R =
     let A = all-ones table other R in
-    let taken = ℕ-discrete (refusal other) 0 in
     record {
       fresh-answers = λ s. fresh-answers table s (A .judged) ∙ sym (fresh-answers other s refl);
       fresh-leaves = λ s. fresh-leaves table s (A .judged) ∙ sym (fresh-leaves other s refl);
-      writes-answers = λ s period. same-written table other A s period taken;
-      writes-leaves = λ s buffer period. same-left table other A s period taken buffer;
+      writes-answers = λ s period room. same-written table other A s period room;
+      writes-leaves = λ s buffer period. same-left table other A s period buffer;
     }
 
 -- rehearse
