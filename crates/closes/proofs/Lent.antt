@@ -27,12 +27,13 @@ use Rattle.rules.specs.Bag.{sameEntry, isIn, enter, isFull, boardsIn, isHash, e
 use Rattle.rules.specs.Form.{allZero, formed, select, ops, laterOps, read}
 use Rattle.rules.specs.Rules.{boardFrom, addRows, rule, answer, next, reply, leave}
 use Rattle.rules.specs.Run.{storeFrom, byRules}
-use Rattle.rules.specs.Valid.{different, InTable}
+use Rattle.rules.specs.Valid.{different, InTable, CountersIn}
 use Rattle.rules.proofs.Bag.{eq-of-same}
 use Rattle.rules.proofs.Follows.{rules-follow}
 use Rattle.state.specs.Contents.{Contents}
 use Rattle.state.specs.Encode.{encode}
 use Rattle.state.specs.declared.Fact.the-variants.{Heard}
+use Rattle.state.specs.declared.Number.the-variants.{CurrentOf, ToBackOf}
 use Rattle.view.specs.View.{told, stateOf}
 use Rattle.view.specs.Good.{Good}
 use Rattle.view.proofs.Heard.{told-at, told-in}
@@ -46,7 +47,7 @@ use Rattle.guarantee.specs.Lent.{fromState}
 use Rattle.guarantee.proofs.Lent.{can-be-lent, from-lent}
 use Rattle.closes.specs.Plan.{saidIn, everyPlace, Planned, InTurnPlanned}
 use Rattle.closes.specs.Runs.{table2}
-use Rattle.closes.specs.Lent.{unknown2, takesBetween, planTakes, strays2, inTurnLent, planLent, TakesSpoil, StraysStay, LentWorked}
+use Rattle.closes.specs.Lent.{closedBoth, unknown2, takesBetween, planTakes, strays2, inTurnLent, planLent, TakesSpoil, StraysStay, LentWorked}
 use Rattle.closes.proofs.Plan.{is-in-turn, no-takes}
 use Rattle.closes.proofs.Worked.{honest}
 
@@ -62,6 +63,15 @@ open-most false = omega arith
 open-peer : (j : ℕ) (b : Bool) → between 1 j 2 ≡ b → 0 < cond b 1 0 → (1 ≤ j) × (j ≤ 2)
 open-peer j true e l = between-true 1 j 2 e
 open-peer j false e l = absurd (omega arith)
+
+-- the counters of both
+counters-in : CountersIn T2 (λ j. closedBoth (CurrentOf j)) (λ j. closedBoth (ToBackOf j))
+unfolding headerSize fieldOf
+counters-in = record {
+  opens = λ j. open-most (between 1 j 2);
+  behind = λ j. omega arith;
+  peers = λ j l. open-peer j (between 1 j 2) refl l;
+}
 
 unknown-good : Good T2 unknown2
 unfolding headerSize fieldOf told numberAt different isIn
@@ -79,11 +89,7 @@ unknown-good = record {
       holds = λ j p x e. false-true e;
       knows = λ j p x k e. false-true e;
     };
-    counters = record {
-      opens = λ j. open-most (between 1 j 2);
-      behind = λ j. omega arith;
-      peers = λ j l. open-peer j (between 1 j 2) refl l;
-    };
+    counters = counters-in;
     down = λ j e. false-true e;
     bag = record { size = omega arith; entries = λ e i. false-true i; apart = refl };
     heard = λ j k p B e. false-true e;
@@ -126,11 +132,7 @@ strays-good = record {
             (omega (arith, peer .0, is-j), omega (arith, peer .1, is-j)),
           );
     };
-    counters = record {
-      opens = λ j. open-most (between 1 j 2);
-      behind = λ j. omega arith;
-      peers = λ j l. open-peer j (between 1 j 2) refl l;
-    };
+    counters = counters-in;
     down = λ j e. false-true e;
     bag = record { size = omega arith; entries = four-in; apart = refl };
     heard = λ j k p B e.
