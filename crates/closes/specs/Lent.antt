@@ -1,7 +1,7 @@
 -- Closes of period 0 of the two peers in states that were lent, which no steps lead to: signatures that no database
 -- has, and backings, a board and a heard hash of the period that are strays.
 use Prim.Native.Nat.{ℕ}
-use mathlib.Core.Bool.{Bool, true, false, cond, _&&_}
+use mathlib.Core.Bool.{Bool, false, cond, _&&_}
 use mathlib.Core.List.{List, [], _∷_, _++_}
 use mathlib.Core.Path.{_≡_}
 use lib.Dec.{eqb}

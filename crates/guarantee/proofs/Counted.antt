@@ -2,7 +2,7 @@
 -- this one equation the statements on weights are those on numbers of peers.
 use Prim.Native.Nat.{ℕ, _+_, _-_, _≤_}
 use native.Mathlib.Omega.{arith}
-use mathlib.Core.Bool.{Bool, true, false}
+use mathlib.Core.Bool.{true, false}
 use mathlib.Core.List.{List}
 use mathlib.Core.Logic.{_⊎_, inl, inr}
 use mathlib.Core.Path.{_≡_, refl, sym, ap, subst, _∙_}
@@ -22,13 +22,13 @@ use Rattle.header.proofs.Weighing.{weight-none}
 use Rattle.ballot.specs.Table.{refusal, tableRefusals}
 use Rattle.ballot.proofs.Sound.{sound}
 use Rattle.clash.specs.Clash.{clashIn}
-use Rattle.rules.specs.Table.{Table, needed}
+use Rattle.rules.specs.Table.{Table}
 use Rattle.engine.specs.Engine.{rulesTable}
 use Rattle.rehearsal.specs.Input.{tableIn, inputRefusal}
 use Rattle.hall.specs.Hung.{rehearsalIn, hangAnswer}
 use Rattle.edges.proofs.Weights.{weights-taken, peers-counted}
 use Rattle.guarantee.specs.Demand3.{HonestEnough, AlwaysSafeBy}
-use Rattle.guarantee.specs.Counted.{WeighedByBytes, heads, honestHeads, headsTable, OnesOnly, ByHeads, CountedEnough, CountedAll}
+use Rattle.guarantee.specs.Counted.{WeighedByBytes, honestHeads, headsTable, OnesOnly, ByHeads, CountedEnough, CountedAll}
 use Rattle.guarantee.specs.Liveness.{NoneDishonest, BoardsCome, BoardsComeBy}
 use Rattle.guarantee.specs.Lent.{BoardsComeLentBy}
 use Rattle.guarantee.specs.Once.{SharesOnceBy, ReceiptsOnce, ShownOnce}

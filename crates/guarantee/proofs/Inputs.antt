@@ -4,11 +4,11 @@
 use Prim.Native.Nat.{ℕ, _+_, _-_, _*_, _/_, _≤_, _<_}
 use native.Mathlib.Decide.{ℕ-discrete}
 use native.Mathlib.Omega.{arith}
-use mathlib.Core.Bool.{Bool, true, false, cond, not, _&&_}
+use mathlib.Core.Bool.{true, false, cond, not, _&&_}
 use mathlib.Core.List.{List}
 use mathlib.Core.Logic.{_⊎_, inl, inr}
 use mathlib.Core.Path.{_≡_, refl, sym, ap, ap₂, _∙_}
-use lib.Dec.{eqb, leb, ltb}
+use lib.Dec.{eqb, ltb}
 use lib.ListN.{length, take, drop}
 use lib.Seq.{getD-take, length-take-le, take-add, drop-at}
 use borrow.Author.Tests.{leb-true, le-ltb, ltb-false, not-false}
@@ -16,7 +16,6 @@ use Rattle.base.specs.Bytes.{byteAt, numberAt, part}
 use Rattle.base.specs.Refusals.{first}
 use Rattle.base.proofs.Refusals.{Passed, passed}
 use Rattle.base.proofs.Truth.{either, and-l, and-r}
-use Rattle.header.specs.Season.{zeroThen}
 use Rattle.header.specs.Header.{headerSize, itemsOf, headerOk}
 use Rattle.pairs.specs.Pairs.{pairNumber, firstOffset, endBefore, pairsFit}
 use Rattle.pairs.proofs.Texts.{starts-at, text-ends}

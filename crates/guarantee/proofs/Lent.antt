@@ -6,7 +6,6 @@ use mathlib.Core.Path.{_≡_, refl, sym, ap, subst, _∙_}
 use Rattle.header.specs.Header.{headOf}
 use Rattle.ballot.specs.Table.{refusal}
 use Rattle.clash.specs.Clash.{clashIn}
-use Rattle.rules.specs.State.{State}
 use Rattle.rules.specs.Run.{byRules}
 use Rattle.state.specs.Contents.{Contents, contents, Holds}
 use Rattle.state.specs.Encode.{encode}
@@ -20,7 +19,7 @@ use Rattle.engine.specs.States.{StateOf}
 use Rattle.engine.proofs.Calls.{room-of}
 use Rattle.engine.proofs.Fits.{good-fits}
 use Rattle.engine.proofs.States.{ready-state, state-ready}
-use Rattle.liveness.specs.Places.{Behaviour, behaviourFrom}
+use Rattle.liveness.specs.Places.{behaviourFrom}
 use Rattle.liveness.proofs.Places.{as-rules-from}
 use Rattle.liveness.proofs.Lent.{through-lent}
 use Rattle.liveness.proofs.CanClose.{lent-can-close}

@@ -1,42 +1,35 @@
 -- What `fresh`, `write_sheet`, `rehearse` and `hang` see of a table is its refusal, its header, its texts and its clashes: where
 -- these are what they were, so are the answers, and what is left.
-use Prim.Native.Nat.{ℕ, zero, suc, _+_, _*_, _≤_, _<_}
-use native.Mathlib.Decide.{ℕ-discrete, decLt}
+use Prim.Native.Nat.{ℕ, zero, suc, _+_, _<_}
+use native.Mathlib.Decide.{ℕ-discrete}
 use native.Mathlib.Omega.{arith}
-use mathlib.Core.Bool.{Bool, true, false, cond, not, _&&_}
+use mathlib.Core.Bool.{true, false, cond, _&&_}
 use mathlib.Core.List.{List, [], _∷_, _++_}
 use mathlib.Core.Logic.{_⊎_, inl, inr}
-use mathlib.Core.Path.{_≡_, refl, sym, ap, ap₂, subst, fun-ext, _∙_}
+use mathlib.Core.Path.{_≡_, refl, sym, ap, ap₂, fun-ext, _∙_}
 use lib.Dec.{eqb, leb, ltb}
 use lib.ListN.{length, length-drop}
 use borrow.Author.Tests.{ne-eqb, eqb-true, le-ltb, ltb-false}
 use Rattle.base.specs.Bits.{bit}
 use Rattle.base.specs.Bytes.{byteAt, part}
-use Rattle.base.specs.Refusals.{Refusals, state, name, unknown, sheet, numbered, first}
+use Rattle.base.specs.Refusals.{Refusals, numbered, first}
 use Rattle.base.proofs.Refusals.{first-passed, first-given}
-use Rattle.base.proofs.Truth.{either, split, and-l, and-r, and-false, false-true}
-use Rattle.header.specs.declared.Head.{Head}
-use Rattle.header.specs.Season.{zeroThen}
-use Rattle.header.specs.Header.{headerSize, itemsOf, headOf, headerOk, honestCount}
-use Rattle.pairs.specs.Pairs.{firstOffset, endBefore, pairsFit, lastEnd}
+use Rattle.base.proofs.Truth.{either, and-l, and-r, and-false}
+use Rattle.header.specs.Header.{headerSize, itemsOf, headOf, headerOk}
+use Rattle.pairs.specs.Pairs.{pairsFit, lastEnd}
 use Rattle.ballot.specs.Table.{refusal, itemText, tableRefusals}
 use Rattle.clash.specs.Clash.{clashIn}
-use Rattle.text.specs.Wrote.{each}
-use Rattle.report.specs.Lines.{refusedLine, headLine, stepLine}
-use Rattle.report.specs.State.{stateLines}
-use Rattle.state.specs.Contents.{contents}
+use Rattle.report.specs.Lines.{refusedLine}
 use Rattle.engine.specs.Engine.{freshAnswer, freshBytes, stepAnswer, stepBytes}
-use Rattle.rehearsal.specs.Input.{inputMost, tableEnd, tableIn, tableThere, inputRefusal, stepCount, callAt}
+use Rattle.rehearsal.specs.Input.{inputMost, tableIn, tableThere, inputRefusal, stepCount, callAt}
 use Rattle.rehearsal.specs.Rehearsal.{stateAt, stepAt, lastState, reportOf, lentRefusal, reported, stateLeft}
-use Rattle.printing.specs.declared.Written.the-variants.{Refused}
 use Rattle.printing.specs.Board.{boardsOn, firstBoard, boardTexts}
 use Rattle.printing.specs.Written.{sheetFor, boardRefusals, writeAnswer, written, sheetLeft}
 use Rattle.hall.specs.Hung.{periodAsked, rehearsalIn, askedRefusals, periodRefusals, askedAnswer, periodAnswer, hangAnswer, hung}
 use Rattle.edges.specs.Seasons.{Seen, AsBefore, Older, firstEngine, secondEngine, StartsWith0, StartsWith03}
 use Rattle.edges.specs.SecondSeason as two
 use Rattle.edges.proofs.Seasons.{season-edges}
-use Rattle.guarantee.specs.Seasons.{answerSeeing, bytesSeeing}
-use Rattle.guarantee.specs.Seeing.{thisEngine, freshSeeing, freshLeft, textsSeen, sheetSeeing, writeSeeing, writtenSeeing, sheetLeftSeeing, Looks, tableBy, looksBy, tableSeen, refusalSeen, countSeen, callSeen, stateSeen, lineSeen, reportSeen, lentSeen, reportedSeen, stateLeftSeen, askedSeen, stateThen, hangSeen, hungSeen, OldCalls, OldEnginesCalls}
+use Rattle.guarantee.specs.Seeing.{thisEngine, freshSeeing, freshLeft, textsSeen, sheetSeeing, writeSeeing, writtenSeeing, sheetLeftSeeing, Looks, tableBy, looksBy, tableSeen, refusalSeen, stateSeen, lineSeen, reportSeen, reportedSeen, stateLeftSeen, askedSeen, stateThen, hangSeen, hungSeen, OldCalls, OldEnginesCalls}
 use Rattle.guarantee.proofs.Inputs.{end-most, byte-in}
 
 -- the first refusal of a row, and where none of it applies that of the next

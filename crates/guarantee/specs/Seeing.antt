@@ -1,6 +1,6 @@
 -- What `fresh`, `write_sheet`, `rehearse` and `hang` answer and leave, by what an engine sees of a table: an engine
 -- that reads tables as an older one did, and this one on tables that are not newer than it.
-use Prim.Native.Nat.{ℕ, zero, suc, _+_, _-_, _*_, _/_, _<_}
+use Prim.Native.Nat.{ℕ, zero, suc, _+_, _-_, _*_, _/_}
 use mathlib.Core.Bool.{Bool, cond, not, _&&_}
 use mathlib.Core.List.{List, [], _∷_, _++_}
 use mathlib.Core.Path.{_≡_}
@@ -8,7 +8,7 @@ use lib.Dec.{eqb, leb, ltb}
 use lib.ListN.{length}
 use Rattle.base.specs.Bits.{bit}
 use Rattle.base.specs.Bytes.{part}
-use Rattle.base.specs.Refusals.{Refusals, header, pairs, state, name, unknown, sheet, numberOf, numbered, first}
+use Rattle.base.specs.Refusals.{header, pairs, state, name, unknown, sheet, numberOf, numbered, first}
 use Rattle.base.specs.Refusals as word
 use Rattle.header.specs.declared.Head.{Head}
 use Rattle.header.specs.Header.{headerSize, headOf, headerOk, honestCount}

@@ -1,10 +1,10 @@
 -- What shrinking sees of an input is what a rehearsal sees of it.
 use Prim.Native.Nat.{ℕ, _-_, _≤_}
 use native.Mathlib.Decide.{ℕ-discrete}
-use mathlib.Core.Bool.{Bool, true, false, cond, _||_, _&&_}
+use mathlib.Core.Bool.{true, false, cond, _&&_}
 use mathlib.Core.List.{List}
 use mathlib.Core.Logic.{_⊎_, inl, inr}
-use mathlib.Core.Path.{_≡_, refl, sym, ap, ap₂, fun-ext, _∙_}
+use mathlib.Core.Path.{_≡_, refl, sym, ap₂, _∙_}
 use lib.Dec.{eqb, ltb}
 use lib.ListN.{length}
 use borrow.Author.Tests.{ne-eqb}
@@ -12,26 +12,22 @@ use Rattle.base.specs.Bytes.{byteAt}
 use Rattle.base.proofs.Truth.{either}
 use Rattle.header.specs.Season.{zeroThen}
 use Rattle.header.specs.Header.{peersOf, weightIn}
-use Rattle.rules.specs.Run.{Engine}
 use Rattle.state.specs.Contents.{contents}
 use Rattle.view.specs.View.{stateOf}
-use Rattle.text.specs.Wrote.{each}
 use Rattle.report.specs.Lines.{refusedLine}
 use Rattle.engine.specs.Engine.{freshState, stepAnswer, stepBytes}
 use Rattle.rehearsal.specs.Input.{inputMost, tableIn, inputRefusal, stepCount, callAt}
-use Rattle.edges.specs.Seasons.{Seen, Older, firstEngine, secondEngine, StartsWith0, StartsWith03}
+use Rattle.edges.specs.Seasons.{Seen, Older}
 use Rattle.edges.specs.Weights.{SameButOnes, unweighed}
 use Rattle.edges.proofs.Seasons.{season-edges}
 use Rattle.guarantee.specs.Demand3.{byBytes}
-use Rattle.guarantee.specs.Seeing.{thisEngine, Looks, looksBy, tableSeen, refusalSeen}
+use Rattle.guarantee.specs.Seeing.{thisEngine, Looks, looksBy, tableSeen}
 use Rattle.guarantee.proofs.Inputs.{not-too-long, inputs-alike}
 use Rattle.guarantee.proofs.Ones.{SameSteps, steps-alike, same-steps, unweighed-input}
 use Rattle.guarantee.proofs.Seeing.{refusal-seen, Halves, refused-alike, alike, no-first-header, no-second-header}
-use Rattle.dropping.specs.Kept.{everyStep}
-use Rattle.dropping.specs.Passes.{left}
 use Rattle.dropping.specs.Runs.{lastAnswer}
-use Rattle.trials.specs.Answers.{lastStep, answerIn, stepsLeft}
-use Rattle.shrinking.specs.Shrunk.{clean, shrinkRefusal, keptLine, shrunk}
+use Rattle.trials.specs.Answers.{answerIn, stepsLeft}
+use Rattle.shrinking.specs.Shrunk.{clean, shrinkRefusal, shrunk}
 use Rattle.shrinking.specs.Seasons.{lastSeen, shrunkSeen, OldShrinks, OldEnginesShrink}
 
 module _ (input : List ℕ) where
