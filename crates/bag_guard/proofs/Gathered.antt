@@ -114,7 +114,7 @@ pub gather-end : (f : ℕ → ℕ) (e n set l : ℕ) → e ≤ n → n ≤ e →
 gather-end f e n set l a b q s = s ∙ ap (gathered f) {x = e} {y = l} (omega arith)
 
 -- who is among those gathered
-gathered-has : (f : ℕ → ℕ) (m k : ℕ) → 1 ≤ k → k ≤ room → member (gathered f m) k ≡ any m (λ e. eqb (f e) k)
+pub gathered-has : (f : ℕ → ℕ) (m k : ℕ) → 1 ≤ k → k ≤ room → member (gathered f m) k ≡ any m (λ e. eqb (f e) k)
 unfolding gathered
 gathered-has f m k a b = member-pack room (λ k. any m (λ e. eqb (f e) k)) k a b
 
@@ -139,11 +139,11 @@ signer-of x kind p B k a e = go (either test)
         )
     go (inr t) = let z : 0 ≡ k = rw t at e in absurd (omega arith)
 
-of-signer : (x : Entry) → signerWith (kindOf x) (periodOf x) (boardOf x) x ≡ signerOf x
+pub of-signer : (x : Entry) → signerWith (kindOf x) (periodOf x) (boardOf x) x ≡ signerOf x
 unfolding signerWith
 of-signer x = rw (eqb-self (periodOf x), eqb-self (kindOf x), eqb-self (boardOf x))
 
-hash-is : (x : Entry) (k p B : ℕ) → 1 ≤ k → signerWith hashKind p B x ≡ k → x ≡ Hash k p B
+pub hash-is : (x : Entry) (k p B : ℕ) → 1 ≤ k → signerWith hashKind p B x ≡ k → x ≡ Hash k p B
 hash-is (Hash l q C) k p B a e = let s = signer-of (Hash l q C) hashKind p B k a e in λ i. Hash (s .3 i) (s .1 i) (s .2 i)
 hash-is (Backing l q C) k p B a e = absurd (omega (arith, signer-of (Backing l q C) hashKind p B k a e .0))
 hash-is (Board q C) k p B a e = absurd (omega (arith, signer-of (Board q C) hashKind p B k a e .0))

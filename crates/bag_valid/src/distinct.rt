@@ -26,7 +26,7 @@ const MARK_STEP: u64 = 41;
 const SIGNERS: u64 = 32;
 
 // The mark of the four numbers of an entry.
-fn mark_of(kind: u8, signer: u8, period: u8, board: u64) -> usize
+pub fn mark_of(kind: u8, signer: u8, period: u8, board: u64) -> usize
     ensures { λ r. ⌜ r ≡ markOf kind signer period board ⌝ }
 {
     let name = (wide64(kind) * SIGNERS + wide64(signer)) * 8 + wide64(period);

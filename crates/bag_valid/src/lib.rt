@@ -23,7 +23,7 @@ use state::layout::PERIOD_IN;
 use state::layout::SIGNER_IN;
 use state::layout::SIZE;
 
-mod distinct;
+pub mod distinct;
 
 // Whether the kind is one, and the signer one that the kind may have.
 fn signer_ok(n: u8, kind: u8, signer: u8) -> bool

@@ -30,9 +30,9 @@ more : (B i v : ℕ) → v ≡ B / 256 ^ suc i → v * 256 + boardByte B i ≡ B
 more B i v e = omega (arith, div-div-eq-div-mul B (256 ^ i) 256, ap (λ (n : ℕ). B / n) (pow-suc 256 i))
 
 -- a board is its eight bytes
-whole : (B : ℕ) → B < 2 ^ 64 → numberAt (written (FalseHash 0 0 B)) 5 8 ≡ B
+pub board-read : (op j k p x B : ℕ) → B < 2 ^ 64 → numberAt (bytesOf (of op j k p x B)) 5 8 ≡ B
 unfolding numberAt
-whole B h =
+board-read op j k p x B h =
     more B 0 _ (more B 1 _ (more B 2 _ (more B 3 _ (more B 4 _ (more B 5 _ (more B 6 _ (more B 7 0 (omega arith)))))))) ∙ div-one B
 
 pub read-written : (st : Step) → fields st .board < 2 ^ 64 → read (written st) ≡ Formed st
@@ -51,8 +51,8 @@ read-written (Back j) h = refl
 read-written (Publish e) h = refl
 read-written (FalseSignature j p x) h = refl
 read-written (FalseShare j p x) h = refl
-read-written (FalseHash j p B) h = ap (λ (C : ℕ). Formed (FalseHash j p C)) (whole B h)
-read-written (FalseBacking j p B) h = ap (λ (C : ℕ). Formed (FalseBacking j p C)) (whole B h)
+read-written (FalseHash j p B) h = ap (λ (C : ℕ). Formed (FalseHash j p C)) (board-read 0 0 0 0 0 B h)
+read-written (FalseBacking j p B) h = ap (λ (C : ℕ). Formed (FalseBacking j p C)) (board-read 0 0 0 0 0 B h)
 read-written (Down j) h = refl
 read-written (Up j) h = refl
 read-written (ClearHashes p) h = refl

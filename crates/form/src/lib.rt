@@ -6,7 +6,7 @@ use rules::Call;
 use rules::Step;
 
 // Whether fields that an op does not name are 0.
-fn all_zero(a: u8, b: u8, c: u8, board: u64) -> bool
+pub fn all_zero(a: u8, b: u8, c: u8, board: u64) -> bool
     ensures { λ r. ⌜ r ≡ allZero a b c board ⌝ }
 {
     if a != 0 {

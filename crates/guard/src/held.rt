@@ -10,7 +10,7 @@ use header::Head;
 use sets::whole::held_in;
 
 // Whether two sets of items have an item in common.
-fn sets_meet(a: u64, b: u64) -> bool
+pub fn sets_meet(a: u64, b: u64) -> bool
     ensures { λ r. ⌜ r ≡ inCommon a b ⌝ }
 {
     a & b != 0

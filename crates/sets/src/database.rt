@@ -65,7 +65,7 @@ pub fn fetch(s: &mut [u8], j: u8, other: u8, p: u8)
 }
 
 // A board of items below i, and item i if told so.
-fn with_item(b: u64, i: u8, yes: bool) -> u64
+pub fn with_item(b: u64, i: u8, yes: bool) -> u64
     requires { ⌜ (b < 2 ^ i) × (i < items) ⌝ }
     ensures { λ r. ⌜ r ≡ b + digit yes * 2 ^ i ⌝ }
 {

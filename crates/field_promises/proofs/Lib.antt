@@ -1,0 +1,5 @@
+pub mod OnBytes
+pub mod Runs
+pub mod Kept
+pub mod Beside
+pub mod FieldPeer

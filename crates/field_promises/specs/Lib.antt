@@ -1,0 +1,3 @@
+pub mod Fed
+pub mod FieldPeer
+pub mod Kept

@@ -1,0 +1,4 @@
+pub mod BoxIn
+pub mod MessageBytes
+pub mod Again
+pub mod Worked

@@ -1,0 +1,13 @@
+pub mod Like
+pub mod Own
+pub mod Step
+pub mod InStep
+pub mod Delivered
+pub mod InItsName
+pub mod Room
+pub mod OnlyMessages
+pub mod Placed
+pub mod Valid
+pub mod AsItIs
+pub mod OnePeer
+pub mod Worked

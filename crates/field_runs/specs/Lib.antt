@@ -1,0 +1,5 @@
+pub mod Passed
+pub mod Beside
+pub mod Delivered
+pub mod OnePeer
+pub mod Worked
