@@ -4,15 +4,19 @@
 //!     bench times CASES                    compares the engines, then times them
 //!     bench ops INPUT                      lists the ops that it has
 //!     bench count ENGINE CALL INPUT [OP]   one round, for a tool that counts
+//!     bench boxes INPUT                    lists the calls of the field peer
+//!     bench box BOX CALL INPUT             one round of such a call, likewise
 //!
 //! With an op, `count` calls only its steps; CALL is `step`, or `form` for as
 //! many calls without a step. With the CALL `shrink` the input is cut down once,
-//! with `gain` it is a step file, which is counted once.
+//! with `gain` it is a step file, which is counted once. A box uses the table of the
+//! input alone.
 
 mod check;
 mod cleared;
 mod counted;
 mod engines;
+mod fed;
 mod measure;
 mod ops;
 mod rehearsals;
@@ -21,8 +25,11 @@ mod shrunk;
 
 use cleared::CLEARED;
 use counted::COUNTED;
+use engine::field::PROVED_BOX;
+use engine::{PLAIN, PROVED};
+use fed::{Fed, PLAIN_BOX};
 use inputs::answers::ROWS;
-use measure::{best_times, Bench};
+use measure::{best_times, Bench, ROUNDS};
 use rehearsals::{rehearsals, Rehearsal};
 use shrunk::SHRUNK;
 use std::collections::BTreeMap;
@@ -47,6 +54,8 @@ fn main() {
         ["ops", input] => print_ops(&read(input)),
         ["count", engine, call, input] => count(engine, call, input, None),
         ["count", engine, call, input, op] => count(engine, call, input, op.parse().ok()),
+        ["boxes", input] => with_boxes(&read(input), |fed| println!("{}", fed.name)),
+        ["box", field, call, input] => count_box(field, call, &read(input)),
         _ => panic!("see the head of bench/src/main.rs"),
     }
 }
@@ -80,6 +89,23 @@ fn count(engine: &str, call: &str, input: &str, op: Option<u8>) {
     println!("{calls}");
 }
 
+/// Does something with each call of the field peer, on the table of an input.
+fn with_boxes(input: &[u8], each: impl FnMut(&Fed)) {
+    let text = parts(input).0;
+    let table = reference::table::read_table(text).expect("a valid table");
+    Fed::all(text, &table).iter().for_each(each);
+}
+
+/// Runs one round of a call of the field peer and prints how many calls it had.
+fn count_box(field: &str, call: &str, input: &[u8]) {
+    let field = fed::by_name(field).expect("plain, proved or none");
+    with_boxes(input, |fed| {
+        if fed.name == call {
+            println!("{}", fed.round(&field));
+        }
+    });
+}
+
 fn print_times(cases: &Path) {
     println!("cases: {} reports as stored, from both engines", check::cases(cases));
     for Rehearsal { name, input, calls } in rehearsals() {
@@ -92,9 +118,25 @@ fn print_times(cases: &Path) {
             print_row(call, bench.times(call));
         }
     }
+    print_boxes();
     print_shrunk();
     print_cleared();
     print_counted();
+}
+
+/// The field peer, with four peers and with sixteen.
+fn print_boxes() {
+    for Rehearsal { name, input, .. } in rehearsals().iter().take(2) {
+        println!();
+        print_head(&format!("box, {name}, nanoseconds"));
+        with_boxes(input, |fed| {
+            fed.check();
+            print_row(
+                fed.name,
+                best_times(ROUNDS, [PLAIN_BOX, PROVED_BOX], |field| fed.round(field)),
+            );
+        });
+    }
 }
 
 fn print_shrunk() {
@@ -106,7 +148,8 @@ fn print_shrunk() {
     print_head("shrink, milliseconds");
     for shrunk in &SHRUNK {
         let input = (shrunk.input)();
-        let times = best_times(shrunk::ROUNDS, |engine| shrunk::round(engine, &input));
+        let times =
+            best_times(shrunk::ROUNDS, [PLAIN, PROVED], |engine| shrunk::round(engine, &input));
         print_row(shrunk.name, times.map(|nanoseconds| nanoseconds / 1e6));
     }
 }
@@ -131,17 +174,18 @@ fn print_counted() {
     print_head("gain, microseconds");
     for counted in &COUNTED {
         let steps = (counted.steps)();
-        let times = best_times(counted::ROUNDS, |engine| counted::round(engine, &steps));
+        let times =
+            best_times(counted::ROUNDS, [PLAIN, PROVED], |engine| counted::round(engine, &steps));
         print_row(counted.name, times.map(|nanoseconds| nanoseconds / 1e3));
     }
 }
 
 fn print_head(what: &str) {
-    println!("{what:24} {:>10} {:>10} {:>7}", "plain", "proved", "ratio");
+    println!("{what:30} {:>10} {:>10} {:>7}", "plain", "proved", "ratio");
 }
 
 fn print_row(name: &str, [plain, proved]: [f64; 2]) {
-    println!("{name:24} {plain:10.1} {proved:10.1} {:7.2}", proved / plain);
+    println!("{name:30} {plain:10.1} {proved:10.1} {:7.2}", proved / plain);
 }
 
 /// The ops that there are: number, name, and how many steps.

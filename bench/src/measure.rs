@@ -12,7 +12,7 @@ use std::time::Instant;
 pub const CALLS: &[&str] = &["rehearse", "step", "fresh", "write_sheet", "check_sheet"];
 
 /// How often each is timed; the best time counts.
-const ROUNDS: usize = 40;
+pub const ROUNDS: usize = 40;
 
 /// The same call so many times in a round.
 const TIMES: usize = 500;
@@ -57,15 +57,20 @@ impl<'a> Bench<'a> {
     /// The best times of the plain and the proved engine, in nanoseconds for
     /// each call or step.
     pub fn times(&mut self, call: &str) -> [f64; 2] {
-        best_times(ROUNDS, |engine| self.round(engine, call))
+        best_times(ROUNDS, [PLAIN, PROVED], |engine| self.round(engine, call))
     }
 }
 
-/// The same of so many rounds, of which each tells how many calls it had.
-pub fn best_times(rounds: usize, mut round: impl FnMut(&Engine) -> usize) -> [f64; 2] {
+/// The same of two engines or boxes, in so many rounds, of which each tells how many
+/// calls it had.
+pub fn best_times<T>(
+    rounds: usize,
+    engines: [T; 2],
+    mut round: impl FnMut(&T) -> usize,
+) -> [f64; 2] {
     let mut best = [f64::MAX; 2];
     for _ in 0..rounds {
-        for (engine, best) in [PLAIN, PROVED].iter().zip(&mut best) {
+        for (engine, best) in engines.iter().zip(&mut best) {
             let start = Instant::now();
             let calls = round(engine);
             *best = best.min(start.elapsed().as_nanos() as f64 / calls as f64);

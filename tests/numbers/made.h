@@ -66,5 +66,6 @@ void check_state_numbers(void);
 void check_sheet_numbers(void);
 void check_shrink_numbers(void);
 void check_gain_numbers(void);
+void check_field_numbers(void);
 
 #endif

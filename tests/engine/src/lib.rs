@@ -22,10 +22,12 @@
 //! - `wrong_reports`: engines that show weights for numbers of peers
 //! - `wrong_totals`: engines that count something else at the report's foot
 //! - `program`: the proved programs, from input to output
+//! - `field`: the field peer likewise, one peer's box
 
 pub mod altered;
 pub mod cleared;
 pub mod closes;
+pub mod field;
 pub mod given;
 pub mod layout;
 pub mod lent;

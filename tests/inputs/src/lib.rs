@@ -31,6 +31,7 @@
 //! - `scattered`, with `lent_closes`: states that no steps need lead to, and closes from
 //!   such states
 //! - `answers`: which answers the steps got
+//! - `field`: calls and states of one peer's box for the field
 //! - `sheets`: valid sheets, damaged ones, and other bytes
 //! - `stored`: the rehearsals that are stored, with their reports
 
@@ -43,6 +44,7 @@ mod counted;
 pub mod damaged;
 mod earlier;
 mod exchange;
+pub mod field;
 pub mod given;
 pub mod kinds;
 pub mod lent_closes;

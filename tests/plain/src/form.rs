@@ -10,12 +10,12 @@ pub struct Fields {
     pub board: u64,
 }
 
-const PEER: u64 = 0xFF << 8;
-const OTHER: u64 = 0xFF << 16;
-const PERIOD: u64 = 0xFF << 24;
-const ITEM: u64 = 0xFF << 32;
+pub const PEER: u64 = 0xFF << 8;
+pub const OTHER: u64 = 0xFF << 16;
+pub const PERIOD: u64 = 0xFF << 24;
+pub const ITEM: u64 = 0xFF << 32;
 const SMALL: u64 = PEER | OTHER | PERIOD | ITEM;
-const BOARD: u64 = 0xFF << 40;
+pub const BOARD: u64 = 0xFF << 40;
 
 /// For each op from 1 on the bytes that it names.
 const NAMED: [u64; 19] = [
@@ -43,8 +43,12 @@ const NAMED: [u64; 19] = [
 /// The fields, unless the form is wrong (5).
 pub fn read(bytes: &[u8]) -> Option<Fields> {
     let bytes: &[u8; 13] = bytes.try_into().ok()?;
+    read_named(bytes, *NAMED.get(bytes[0].wrapping_sub(1) as usize)?)
+}
+
+/// The fields, of which those that are not named must be 0.
+pub fn read_named(bytes: &[u8; 13], named: u64) -> Option<Fields> {
     let [op, peer, other, period, item, ..] = *bytes;
-    let named = *NAMED.get(op.wrapping_sub(1) as usize)?;
     let front = u64::from_le_bytes(bytes[..8].try_into().unwrap());
     let board = u64::from_be_bytes(bytes[5..].try_into().unwrap());
     if front & SMALL & !named != 0 || board != 0 && named & BOARD == 0 {

@@ -55,6 +55,12 @@ impl Table {
     pub fn need_threshold(&self, set: u16) -> Done {
         refuse_if(!self.is_quorum(set), SHORT)
     }
+
+    /// The items whose signers weigh t.
+    pub fn board(&self, row: [u16; 64]) -> u64 {
+        let bit = |i: usize| (self.is_quorum(row[i]) as u64) << i;
+        (0..64).fold(0, |board, i| board | bit(i))
+    }
 }
 
 impl State {
@@ -77,9 +83,7 @@ impl State {
 
     /// Peer j's items in a period whose signers weigh t.
     pub fn board(&self, table: &Table, j: usize, period: usize) -> u64 {
-        let row = self.databases[j][period];
-        let bit = |i: usize| (table.is_quorum(row[i]) as u64) << i;
-        (0..64).fold(0, |board, i| board | bit(i))
+        table.board(self.databases[j][period])
     }
 
     /// Enters an entry, if it is not there.

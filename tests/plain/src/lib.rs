@@ -15,10 +15,12 @@
 //! - `shrink`: a short rehearsal that still refuses
 //! - `sheet`: a period's board as a sheet, written and read
 //! - `gain`: how many entries a step file can add to the bag
+//! - `field`: the field peer, one peer's box
 
 mod advance;
 mod clear;
 mod differ;
+mod field;
 mod form;
 mod gain;
 mod guards;
@@ -32,6 +34,7 @@ mod table;
 mod texts;
 mod valid;
 
+pub use field::{field_message, field_state_length, field_step};
 pub use gain::gain;
 use guards::{refuse_if, STATE};
 pub use report::rehearse;

@@ -81,7 +81,7 @@ const STARTS: [usize; 7] = [
 
 /// Adds the bits of the first `used` rows to a row, and gives those of the
 /// others.
-fn gather<const N: usize>(bytes: &[u8], used: usize, sum: &mut [u8; N]) -> u8 {
+pub fn gather<const N: usize>(bytes: &[u8], used: usize, sum: &mut [u8; N]) -> u8 {
     let (rows, others) = bytes.split_at(used * N);
     for row in rows.as_chunks::<N>().0 {
         for k in 0..N {
@@ -91,22 +91,22 @@ fn gather<const N: usize>(bytes: &[u8], used: usize, sum: &mut [u8; N]) -> u8 {
     any(others)
 }
 
-fn and<const N: usize>(row: [u8; N], mask: [u8; N]) -> [u8; N] {
+pub fn and<const N: usize>(row: [u8; N], mask: [u8; N]) -> [u8; N] {
     std::array::from_fn(|k| row[k] & mask[k])
 }
 
 /// The bits that are 1 in any of the bytes.
-fn any(bytes: &[u8]) -> u8 {
+pub fn any(bytes: &[u8]) -> u8 {
     bytes.iter().fold(0, |sum, byte| sum | byte)
 }
 
 /// The first n of 64 bits.
-fn first(n: u8) -> u64 {
+pub fn first(n: u8) -> u64 {
     u64::MAX.checked_shr(64 - n as u32).unwrap_or(0)
 }
 
 /// The items of the table, by period.
-fn of_cells(table: &Table) -> [u8; 64] {
+pub fn of_cells(table: &Table) -> [u8; 64] {
     let mut mask = [0; 64];
     for row in &mut mask.as_chunks_mut::<8>().0[..table.periods as usize] {
         *row = first(table.m).to_le_bytes();
@@ -115,7 +115,7 @@ fn of_cells(table: &Table) -> [u8; 64] {
 }
 
 /// The peers of the table, by item.
-fn of_seats(table: &Table) -> [u8; 128] {
+pub fn of_seats(table: &Table) -> [u8; 128] {
     let mut mask = [0; 128];
     for set in &mut mask.as_chunks_mut::<2>().0[..table.m as usize] {
         *set = (first(table.n) as u16).to_le_bytes();

@@ -2,7 +2,7 @@
 //!
 //! It is meant to be read beside the document and to be compared with the
 //! engine. It is not fast, and its state is not a buffer: number 14 (state),
-//! which is about the buffer's bytes, has no place here.
+//! which is about the buffer's bytes, has no place here, but in `field`.
 //!
 //! - `pairs`: pairs of offset and length, and the texts that they mark out
 //! - `season`: of which season a table is, and what that changes
@@ -19,9 +19,11 @@
 //! - `sheet`: a published board as a file of its own, written and read
 //! - `shrink`: a rehearsal that was refused at its end, cut down
 //! - `gain`: the most that the bag can gain by a step file, counted from the file alone
+//! - `field`: one peer's box for the field, on bytes of its own
 //! - `ideal`: the ideal board
 
 mod false_steps;
+pub mod field;
 pub mod form;
 pub mod gain;
 mod header;

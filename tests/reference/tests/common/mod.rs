@@ -1,6 +1,8 @@
 //! Helpers of the tests: tables from parts, and runs.
 #![allow(dead_code)]
 
+pub mod field;
+
 use reference::form::{write_step, Step};
 use reference::season::Season;
 use reference::state::State;
