@@ -89,11 +89,11 @@ refused-same : (T : Table) (j : ℕ) (s : List ℕ) (m : Message) → eqb (handl
 unfolding handle
 refused-same T j s m e = rw e
 
-letter-same : (T : Table) (j : ℕ) (s : List ℕ) (L : Reading) → eqb (handleReading T j (boxOf s) L .answer) 0 ≡ false
+reading-same : (T : Table) (j : ℕ) (s : List ℕ) (L : Reading) → eqb (handleReading T j (boxOf s) L .answer) 0 ≡ false
     → handleReading T j (boxOf s) L .after ≡ boxOf s
 unfolding handleReading
-letter-same T j s malformed e = refl
-letter-same T j s (to i m) e = go (eqb i j) e
+reading-same T j s malformed e = refl
+reading-same T j s (to i m) e = go (eqb i j) e
   where
     go : (b : Bool) → eqb (cond b (handle T j (boxOf s) m) (record { answer = 6; after = boxOf s; sent = none }) .answer) 0 ≡ false
         → cond b (handle T j (boxOf s) m) (record { answer = 6; after = boxOf s; sent = none }) .after ≡ boxOf s
@@ -101,10 +101,11 @@ letter-same T j s (to i m) e = go (eqb i j) e
     go false e = refl
 
 -- so the bytes are
-refused-bytes : (T : Table) (h : Head) (j : ℕ) (s t : List ℕ) (L : Reading) {r : ℕ} → Ready h s → HandlesReading T j s t L r → eqb r 0 ≡ false
+refused-bytes : (T : Table) (h : Head) (j : ℕ) (s t : List ℕ) (L : Reading) {r : ℕ} → Ready h s → HandlesReading T j s t L r
+    → eqb r 0 ≡ false
     → t ≡ s
 refused-bytes T h j s t L {r} R H e =
-    holds-bytes t _ (H .leaves) ∙ ap encode (letter-same T j s L (ap (λ (a : ℕ). eqb a 0) (sym (H .answers)) ∙ e))
+    holds-bytes t _ (H .leaves) ∙ ap encode (reading-same T j s L (ap (λ (a : ℕ). eqb a 0) (sym (H .answers)) ∙ e))
     ∙ sym (holds-bytes s (boxOf s) (record { canon = R .canon; says = refl }))
 
 -- no act of the peer's own is judged by what clashes
@@ -112,11 +113,11 @@ module _ (h : Head) (clash : ℕ → ℕ → Bool) (j : ℕ) (s : List ℕ) wher
   abbrev Same : Reading → Type 0
   Same L = handleReading (tableOf h noClash) j (boxOf s) L ≡ handleReading (tableOf h clash) j (boxOf s) L
 
-  same-letter : (ok : Bool) (i : ℕ) (m : Message) → handle (tableOf h noClash) j (boxOf s) m ≡ handle (tableOf h clash) j (boxOf s) m
+  same-reading : (ok : Bool) (i : ℕ) (m : Message) → handle (tableOf h noClash) j (boxOf s) m ≡ handle (tableOf h clash) j (boxOf s) m
       → Same (reading ok i m)
   unfolding reading handleReading
-  same-letter true i m e = ap (λ (z : Handled). cond (eqb i j) z (record { answer = 6; after = boxOf s; sent = none })) e
-  same-letter false i m e = refl
+  same-reading true i m e = ap (λ (z : Handled). cond (eqb i j) z (record { answer = 6; after = boxOf s; sent = none })) e
+  same-reading false i m e = refl
 
   same-choice : (op n : ℕ) (L : Reading) (rest : List (ℕ × Reading)) → Same L → Same (choose op rest) → Same (choose op ((n, L) ∷ rest))
   unfolding choose
@@ -133,13 +134,13 @@ module _ (h : Head) (clash : ℕ → ℕ → Bool) (j : ℕ) (s : List ℕ) wher
   same-own : (op i k p x B : ℕ) → Same (choose op (own i k p x B))
   unfolding handle handleAnswer fieldRule boardFrom
   same-own op i k p x B =
-      same-choice op 3 _ _ (same-letter _ i (signs x) refl)
-      (same-choice op 5 _ _ (same-letter _ i (shares x) refl)
-      (same-choice op 7 _ _ (same-letter _ i closes refl)
-      (same-choice op 9 _ _ (same-letter _ i (hashes p) refl)
-      (same-choice op 11 _ _ (same-letter _ i backs refl)
-      (same-choice op 17 _ _ (same-letter _ i falls refl)
-      (same-choice op 18 _ _ (same-letter _ i rises refl) (same-none op)))))))
+      same-choice op 3 _ _ (same-reading _ i (signs x) refl)
+      (same-choice op 5 _ _ (same-reading _ i (shares x) refl)
+      (same-choice op 7 _ _ (same-reading _ i closes refl)
+      (same-choice op 9 _ _ (same-reading _ i (hashes p) refl)
+      (same-choice op 11 _ _ (same-reading _ i backs refl)
+      (same-choice op 17 _ _ (same-reading _ i falls refl)
+      (same-choice op 18 _ _ (same-reading _ i rises refl) (same-none op)))))))
 
   same-step : (c : List ℕ) → Same (readStep c)
   unfolding readStep handleReading
@@ -200,7 +201,8 @@ module _ (table : List ℕ) {a : ℕ} (checked : a ≡ refusal table) (good : a 
         → Called table j s t (eqb (length o) 13) (readStep c) o u r
     acted-so c o t u {r} l R S =
         let G : SendsReading (rulesTable table) j s t (readStep c) o u r =
-        subst (λ (h : Head). SendsReading (tableOf h (clashIn table)) j s t (readStep c) o u r) head (step-too h (clashIn table) j s t c o u S)
+        subst (λ (h : Head). SendsReading (tableOf h (clashIn table)) j s t (readStep c) o u r) head
+        (step-too h (clashIn table) j s t c o u S)
         in
         heard-so table j s (eqb (length o) 13) (readStep c) o fit
         (and-i _ _ (subst (λ (h : Head). boxOk h s ≡ true) head (ok-of-ready h s R)) (eq-eqb (length o) 13 l)) t u G

@@ -1,12 +1,10 @@
 // One peer for the field: the box of one honest peer, on bytes.
-// It uses field_rules for what it is to do, field_form to do it, field_valid for row 14, ballot for the table, clash for
-// what clashes.
+// It uses field_rules for what it is to do, field_form to do it, field_valid for row 14, ballot for the table.
 ghost use mathlib.Core.Path.{_≡_};
 ghost use Rattle.field_state.specs.Layout.{size};
 ghost use Rattle.field.specs.Calls.{messageAnswer, messageLeaves, ownAnswer, ownLeaves, ownSends};
 
 mod calls; // the two calls
-mod read; // a message or a step, read and done
 
 // The length of the field peer's state; a state of zeros is fresh.
 #[no_mangle]
@@ -34,11 +32,12 @@ pub extern "C" fn field_step(
     step: &[u8],
     sent: &mut [u8],
 ) -> u8
-    ensures { λ r. ⌜ r ≡ ownAnswer (now (table .entry)) peer (now (state .entry)) (now (step .entry)) (now (sent .entry)) ⌝ }
-    ensures { λ _. ⌜ now (state .exit) ≡ ownLeaves (now (table .entry)) peer (now (state .entry)) (now (step .entry)) (now
-        (sent .entry)) ⌝ }
-    ensures { λ _. ⌜ now (sent .exit) ≡ ownSends (now (table .entry)) peer (now (state .entry)) (now (step .entry)) (now
-        (sent .entry)) ⌝ }
+    ensures { λ r. ⌜ r ≡ ownAnswer (now (table .entry)) peer (now (state .entry)) (now (step .entry))
+        (now (sent .entry)) ⌝ }
+    ensures { λ _. ⌜ now (state .exit) ≡ ownLeaves (now (table .entry)) peer (now (state .entry)) (now (step .entry))
+        (now (sent .entry)) ⌝ }
+    ensures { λ _. ⌜ now (sent .exit) ≡ ownSends (now (table .entry)) peer (now (state .entry)) (now (step .entry))
+        (now (sent .entry)) ⌝ }
 {
     calls::act(table, peer, state, step, sent)
 }

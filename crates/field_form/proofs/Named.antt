@@ -31,7 +31,8 @@ module _ (h : Head) (clash : ℕ → ℕ → Bool) (j : ℕ) (s : List ℕ) (m :
   not-mine R n d = rw (not-false ok n)
       (record { answers = rw (ne-eqb i j d); leaves = rw (ne-eqb i j d) (record { canon = R .canon; says = refl }) })
 
-  pub mine : (t : List ℕ) {r : ℕ} → not ok ≡ false → i ≡ j → HandlesBy h clash j s t m r → HandlesReading (tableOf h clash) j s t (reading ok i m) r
+  pub mine : (t : List ℕ) {r : ℕ} → not ok ≡ false → i ≡ j → HandlesBy h clash j s t m r
+      → HandlesReading (tableOf h clash) j s t (reading ok i m) r
   unfolding reading handleReading handle
   mine t n e H = rw (not-false ok n) (record { answers = rw (eq-eqb i j e) (H .answers); leaves = rw (eq-eqb i j e) (H .leaves) })
 
@@ -45,7 +46,8 @@ module _ (h : Head) (j : ℕ) (s : List ℕ) (m : Message) (i : ℕ) (o : List �
   pub sent-mine : (t u : List ℕ) {r : ℕ} → not ok ≡ false → i ≡ j → Sends h j s t m o u r
       → SendsReading (tableOf h noClash) j s t (reading ok i m) o u r
   unfolding reading handleReading
-  sent-mine t u n e S = record { handles = mine h noClash j s m i ok t n e (S .handles); sends = rw (not-false ok n, eq-eqb i j e) (S .sends) }
+  sent-mine t u n e S = record
+      { handles = mine h noClash j s m i ok t n e (S .handles); sends = rw (not-false ok n, eq-eqb i j e) (S .sends) }
 
 -- an item handed, whose row was read
 module _ (h : Head) (table s : List ℕ) (R : Ready h s) (same : h .items ≡ itemsOf table) (j x row : ℕ) (read : row ≡ clashMask table x)
@@ -58,7 +60,8 @@ module _ (h : Head) (table s : List ℕ) (R : Ready h s) (same : h .items ≡ it
         ap (λ (b : Bool). boxOf s .held p y && b)
         (ap (λ (m : ℕ). bit m y) read ∙ bit-pack (maskWidth table) (clashIn table x) y (omega (arith, l, same, R .room .items)))))
 
-    asked-same : handleAnswer (tableOf h (inRow row)) j (boxOf s) (handed x) ≡ handleAnswer (tableOf h (clashIn table)) j (boxOf s) (handed x)
+    asked-same : handleAnswer (tableOf h (inRow row)) j (boxOf s) (handed x)
+        ≡ handleAnswer (tableOf h (clashIn table)) j (boxOf s) (handed x)
     unfolding handleAnswer fieldRule
     asked-same = rw row-asked
 
@@ -75,7 +78,8 @@ module _ (h : Head) (clash : ℕ → ℕ → Bool) (j : ℕ) (s t : List ℕ) (r
   unfolding reading handleReading
   too m e H = go ok H
     where
-      go : (b : Bool) → HandlesReading (tableOf h noClash) j s t (reading b i m) r → HandlesReading (tableOf h clash) j s t (reading b i m) r
+      go : (b : Bool) → HandlesReading (tableOf h noClash) j s t (reading b i m) r
+          → HandlesReading (tableOf h clash) j s t (reading b i m) r
       go false H = record { answers = H .answers; leaves = H .leaves }
       go true H = record { answers = rw (← e) (H .answers); leaves = rw (← e) (H .leaves) }
 

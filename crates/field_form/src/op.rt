@@ -30,7 +30,8 @@ pub fn hand(table: &[u8], s: &mut [u8], h: Head, j: u8, ok: bool, i: u8, x: u8) 
 // 4, take.
 pub fn take(s: &mut [u8], h: Head, j: u8, ok: bool, i: u8, k: u8, p: u8, x: u8) -> u8
     requires { ⌜ Ready h (now s) ⌝ }
-    ensures { λ r. ⌜ HandlesReading (tableOf h noClash) j (now (s .entry)) (now (s .exit)) (reading ok i (taken k p x)) r ⌝ }
+    ensures { λ r. ⌜ HandlesReading (tableOf h noClash) j (now (s .entry)) (now (s .exit))
+        (reading ok i (taken k p x)) r ⌝ }
 {
     if !ok {
         return 5;
@@ -44,7 +45,8 @@ pub fn take(s: &mut [u8], h: Head, j: u8, ok: bool, i: u8, k: u8, p: u8, x: u8) 
 // 10, hear.
 pub fn hear(s: &mut [u8], h: Head, j: u8, ok: bool, i: u8, k: u8, p: u8, board: u64) -> u8
     requires { ⌜ Ready h (now s) ⌝ }
-    ensures { λ r. ⌜ HandlesReading (tableOf h noClash) j (now (s .entry)) (now (s .exit)) (reading ok i (told k p board)) r ⌝ }
+    ensures { λ r. ⌜ HandlesReading (tableOf h noClash) j (now (s .entry)) (now (s .exit))
+        (reading ok i (told k p board)) r ⌝ }
 {
     if !ok {
         return 5;

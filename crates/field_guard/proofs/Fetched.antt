@@ -7,13 +7,11 @@ use mathlib.Core.List.{List}
 use mathlib.Core.Path.{_≡_, refl, sym, ap, ap₂, fun-ext, subst, _∙_}
 use mathlib.Core.Logic.{_⊎_, inl, inr}
 use lib.Dec.{eqb, ltb}
-use lib.Pow.{pow-mono}
 use borrow.Author.Tests.{eqb-true, eq-eqb, ne-eqb, ltb-true, ltb-false, lt-ltb, le-ltb, not-true}
 use Rattle.base.specs.Below.{any}
-use Rattle.base.specs.Bits.{bit, member, pack}
+use Rattle.base.specs.Bits.{bit, member}
 use Rattle.base.specs.Bytes.{byteAt, numberAt}
-use Rattle.base.proofs.Below.{any-at, any-found, any-ext}
-use Rattle.base.proofs.Bits.{bit-high, bit-ext, bit-pack, pack-lt}
+use Rattle.base.proofs.Below.{any-at, any-ext}
 use Rattle.base.proofs.Members.{member-among}
 use Rattle.base.proofs.Truth.{eqb-self, and-false, either, iff, is-false, split, not-i, and-i, and-l, and-r}
 use Rattle.bits.specs.Row.{bitAt}

@@ -7,7 +7,6 @@ use lib.Dec.{eqb}
 use borrow.Author.Tests.{eqb-true, eq-eqb, ne-eqb}
 use Rattle.base.specs.Bits.{member}
 use Rattle.base.specs.Bytes.{byteAt}
-use Rattle.base.specs.Below.{any}
 use Rattle.base.proofs.Truth.{iff}
 use Rattle.base.proofs.Below.{any-ext}
 use Rattle.header.specs.declared.Head.{Head}

@@ -13,21 +13,20 @@ use Rattle.header.specs.Header.{headOf}
 use Rattle.ballot.specs.Table.{refusal}
 use Rattle.clash.specs.Clash.{clashIn}
 use Rattle.rules.specs.Table.{Table}
-use Rattle.rules.specs.Valid.{Peer}
 use Rattle.view.specs.Ready.{Room, Ready as Fits-engine}
-use Rattle.engine.specs.Engine.{rulesTable, freshState, stepAnswer, stepBytes}
+use Rattle.engine.specs.Engine.{rulesTable, stepAnswer, stepBytes}
 use Rattle.engine.proofs.Calls.{room-of}
 use Rattle.guarantee.specs.Demand3.{byBytes}
 use Rattle.guarantee.proofs.Demand3.{bytes-follow}
 use Rattle.rules.specs.Form.{read}
 use Rattle.field_runs.proofs.Placed.{call-placed}
-use Rattle.field_rules.specs.Box.{Box, freshBox}
+use Rattle.field_rules.specs.Box.{Box}
 use Rattle.field_rules.specs.Message.{Message}
 use Rattle.field_rules.specs.Rules.{handle}
 use Rattle.field_rules.specs.BoxIn.{BoxIn, InPlace}
 use Rattle.field_rules.specs.MessageBytes.{messageBytes, readAs, InBytes, sentBytes, handleReading, isBrought, readMessage, readStep, Reading}
 use Rattle.field_rules.specs.Replies.{boxAfter, Reply, boxReplies}
-use Rattle.field_runs.specs.Beside.{withMessage, passes, messages, withReply, fedWith, roomIn, notFull, sends, replies, neitherFull, InStep}
+use Rattle.field_runs.specs.Beside.{withMessage, passes, messages, withReply, fedWith, roomIn, notFull, sends, replies, neitherFull}
 use Rattle.field_rules.proofs.BoxIn.{box-stays-valid}
 use Rattle.field_rules.proofs.MessageBytes.{reads-back}
 use Rattle.field_state.specs.Holding.{boxOf, Holds}
@@ -36,13 +35,9 @@ use Rattle.field_state.specs.Ready.{Ready}
 use Rattle.field.specs.Calls.{callAnswer, callBytes, callSent, messageAnswer, messageLeaves, ownAnswer, ownLeaves, ownSends}
 use Rattle.field_valid.proofs.Ok.{ok-of-ready}
 use Rattle.field_state.proofs.Decoded.{encode-holds}
-use Rattle.field_promises.proofs.Runs.{holds-ready, whichever, fits-valid, zeros-fresh, zeros-ready}
+use Rattle.field_promises.proofs.Runs.{holds-ready, whichever, fits-valid}
 use borrow.Author.Tests.{eq-eqb}
-use Rattle.rules.specs.Run.{storeAfter}
-use Rattle.field_promises.specs.Fed.{Zeros, shown, Shown, withShown, fieldAnswer, fieldBytes, fieldSent, fieldAfter, fieldReplies, fedBytes, roomOn, neitherFullOn, boardReplies}
-use Rattle.field_promises.specs.FieldPeer.{FieldInStep, FieldPeer}
-use Rattle.field_promises.proofs.OnBytes.{one-peer-on-bytes}
-use Rattle.field_runs.proofs.InStep.{ready-after}
+use Rattle.field_promises.specs.Fed.{shown, Shown, withShown, fieldAnswer, fieldBytes, fieldSent, fieldAfter, fieldReplies, fedBytes, roomOn, neitherFullOn, boardReplies}
 
 -- bytes that are ready say what they say
 pub says-itself : {h : Head} (s : List ℕ) → Ready h s → Holds s (boxOf s)
@@ -131,7 +126,8 @@ module _ (table : List ℕ) (fit : refusal table ≡ 0) (j : ℕ) (out : List �
     sent-one =
         sent-as
         ∙ rw (reads-back j m place fits, fit, ok-of-ready h s R, eqb-self j)
-        (ap (λ (z : Box). cond (isBrought m) out (cond (eqb (handle T j z m .answer) 0) (sentBytes j (handle T j z m .sent)) out)) (H .says))
+        (ap (λ (z : Box). cond (isBrought m) out (cond (eqb (handle T j z m .answer) 0) (sentBytes j (handle T j z m .sent)) out))
+        (H .says))
 
     brought-one : Holds (callBytes table j s true L) (handle T j b m .after)
     unfolding callBytes callAnswer handleReading
@@ -228,7 +224,8 @@ module _ (table : List ℕ) (fit : refusal table ≡ 0) (j : ℕ) (out : List �
       go (some m) e rest =
           let p = passed-placed y G c m e in
           some-case table j out s b (stepAnswer table y c) m _ _ (room-one s b R H (stepAnswer table y c) m (p .0) (p .1))
-          (rest (fieldBytes table j out s m) (handle T j b m .after) (ready-one s b R H m (p .0) (p .1)) (bytes-one s b R H m (p .0) (p .1)))
+          (rest (fieldBytes table j out s m) (handle T j b m .after) (ready-one s b R H m (p .0) (p .1))
+          (bytes-one s b R H m (p .0) (p .1)))
 
   -- the board's replies are those of `replies`, as outputs show them
   pub board-shown : (calls : List (List ℕ)) (y : List ℕ)

@@ -21,7 +21,7 @@ use Rattle.field_rules.specs.Rules.{Handled, handle, repeats}
 use Rattle.field_rules.specs.MessageBytes.{InBytes}
 use Rattle.field_rules.specs.BoxIn.{InPlace}
 use Rattle.field_rules.proofs.Again.{sends-again}
-use Rattle.field_runs.specs.Beside.{passes, sends, messages, neitherFull, InStep}
+use Rattle.field_runs.specs.Beside.{sends, messages, neitherFull, InStep}
 use Rattle.field_runs.specs.OnePeer.{OnePeer}
 use Rattle.field_runs.proofs.InStep.{ready-after}
 use Rattle.field_state.specs.Holding.{boxOf, Holds}
@@ -29,7 +29,7 @@ use Rattle.field_state.specs.Encode.{encode}
 use Rattle.field_state.specs.Ready.{Ready}
 use Rattle.field_state.proofs.Encoded.{holds-bytes}
 use Rattle.field_valid.proofs.Ok.{ok-of-ready}
-use Rattle.field_promises.specs.Fed.{Zeros, shown, fieldAnswer, fieldBytes, fieldSent, fieldAfter, fieldReplies, neitherFullOn, boardReplies}
+use Rattle.field_promises.specs.Fed.{Zeros, shown, fieldAnswer, fieldBytes, fieldAfter, fieldReplies, neitherFullOn, boardReplies}
 use Rattle.field_promises.specs.FieldPeer.{FieldInStep, SameOnBytes, Again, FieldPeer}
 use Rattle.field_promises.proofs.OnBytes.{one-peer-on-bytes}
 use Rattle.field_promises.proofs.Runs.{zeros-fresh, zeros-ready}
@@ -67,7 +67,9 @@ module _ (table : List ℕ) (fit : refusal table ≡ 0) (j : ℕ) (out : List �
       let Q = ready-one table fit j out long s b R H m (place .0) (place .1) in
       let G = bytes-one table fit j out long s b R H m (place .0) (place .1) in
       record {
-        answers = answer-one table fit j out long t after Q G m (place .0) (place .1) ∙ ap (λ (z : Handled). z .answer) same ∙ sym first ∙ zero;
+        answers =
+            answer-one table fit j out long t after Q G m (place .0) (place .1) ∙ ap (λ (z : Handled). z .answer) same
+            ∙ sym first ∙ zero;
         sends =
             sent-one table fit j out long t after Q G m (place .0) (place .1)
             ∙ ap (λ (z : Handled). shown j out m (z .answer) (z .sent)) same

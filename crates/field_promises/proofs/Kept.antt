@@ -10,7 +10,7 @@ use Rattle.ballot.specs.Table.{refusal}
 use Rattle.engine.proofs.Calls.{room-of}
 use Rattle.field_state.specs.Ready.{Ready}
 use Rattle.field_valid.proofs.Ok.{ready-of-ok, ok-of-ready}
-use Rattle.field.specs.Calls.{callAnswer, callBytes, callSent}
+use Rattle.field.specs.Calls.{callBytes, callSent}
 use Rattle.field_promises.specs.Fed.{BoxOf}
 use Rattle.field_promises.specs.Kept.{FieldKept}
 use Rattle.field_promises.proofs.Runs.{message-ready, step-ready}

@@ -42,8 +42,8 @@ pub record FieldInStep (table : List ℕ) (j : ℕ) (out y s : List ℕ) : Type 
       → sends (rulesTable table) j (byBytes table) y c ≡ none
 
 -- What two lists of calls from the fresh state have in common, if they pass peer j the same messages, whatever else
--- differs: the box's bytes, its answers and outputs, board_step's answers to these calls and what j sends with them, all
--- that j sends, and j's part of the board's state.
+-- differs: the box's bytes, its answers and outputs, board_step's answers to these calls and what j sends with them,
+-- all that j sends, and j's part of the board's state.
 pub record SameOnBytes (table : List ℕ) (j : ℕ) (zeros out : List ℕ) (calls others : List (List ℕ)) : Type 0 where
   pub boxes : fieldAfter table j out zeros (messages (rulesTable table) j (byBytes table) freshState calls)
       ≡ fieldAfter table j out zeros (messages (rulesTable table) j (byBytes table) freshState others)

@@ -1,13 +1,13 @@
 -- What is written of a message reads as that message: so the box that is fed with bytes is the box that is fed with
 -- messages. And what is sent is told apart by its bytes.
-use Prim.Native.Nat.{ℕ, zero, suc, _+_, _*_, _/_, _%_, _^_, _≤_, _<_}
+use Prim.Native.Nat.{ℕ, zero, suc, _+_, _*_, _/_, _%_, _≤_, _<_}
 use native.Mathlib.Omega.{arith}
-use mathlib.Core.Bool.{Bool, true, false, cond, _&&_}
+use mathlib.Core.Bool.{Bool, true, false, _&&_}
 use mathlib.Core.List.{List, [], _∷_, _++_}
 use mathlib.Core.Option.{Option, none, some}
 use mathlib.Core.Path.{_≡_, refl, sym, ap, _∙_, fun-ext}
 use mathlib.Core.Logic.{_⊎_, inl, inr}
-use lib.Dec.{eqb, ltb}
+use lib.Dec.{ltb}
 use lib.ListN.{length, length-append}
 use borrow.Author.Tests.{eq-eqb, ne-eqb, ltb-true, ltb-false}
 use Rattle.base.specs.Bits.{bit, member, pack}
@@ -59,7 +59,8 @@ module _ (rows : ℕ → ℕ → Bool) where
     set-read : (x : ℕ) → x < rowItems → numberAt fetch (13 + 2 * x) 2 ≡ signersOf rows x
     unfolding numberAt
     set-read x l =
-        let high = ap (byteAt fetch) {x = 13 + 2 * x + 0} {y = 13 + 2 * x} (omega arith) ∙ row-byte (2 * x) (omega (arith, l)) ∙ high-byte x in
+        let high = ap (byteAt fetch) {x = 13 + 2 * x + 0} {y = 13 + 2 * x} (omega arith) ∙ row-byte (2 * x) (omega (arith, l))
+        ∙ high-byte x in
         let low = ap (byteAt fetch) {x = 13 + 2 * x + 1} {y = 13 + (2 * x + 1)} (omega arith) ∙ row-byte (2 * x + 1) (omega (arith, l))
         ∙ low-byte x in
         omega (arith, high, low)

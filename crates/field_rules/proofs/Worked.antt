@@ -13,7 +13,8 @@ use Rattle.field_rules.specs.Replies.{boxReplies}
 use Rattle.field_rules.specs.Worked.{WorkedDay}
 
 pub worked-day : WorkedDay
-unfolding first any pack add2 add3 weight clashing sameEntry isIn enter isFull boardFrom strayRows ownRows fieldRule handleAnswer handle boxReplies
+unfolding first any pack add2 add3 weight clashing sameEntry isIn enter isFull boardFrom strayRows ownRows fieldRule handleAnswer
+    handle boxReplies
 worked-day = record {
   replies = refl;
   stray-item = refl;

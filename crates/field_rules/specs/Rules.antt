@@ -2,7 +2,7 @@
 -- does to the box, and what is sent. It sees its own box and what comes, and nothing else.
 use Prim.Native.Nat.{ℕ, _+_}
 use mathlib.Core.Bool.{Bool, true, false, cond, _&&_, _||_, not}
-use mathlib.Core.List.{List, [], _∷_}
+use mathlib.Core.List.{[], _∷_}
 use mathlib.Core.Option.{Option, none, some}
 use lib.Dec.{eqb, ltb}
 use Rattle.base.specs.Refusals.{Refusals, name, role, down, period, unknown, clash, given, short, full, numbered, first}

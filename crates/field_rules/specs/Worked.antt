@@ -1,6 +1,5 @@
 -- A worked run of the field peer alone, and single answers: what document 02 has it answer and send.
-use Prim.Native.Nat.{ℕ}
-use mathlib.Core.Bool.{true, false, _&&_, _||_}
+use mathlib.Core.Bool.{_&&_, _||_}
 use mathlib.Core.List.{List, [], _∷_}
 use mathlib.Core.Option.{none, some}
 use mathlib.Core.Path.{_≡_}

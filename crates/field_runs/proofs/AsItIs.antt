@@ -1,10 +1,10 @@
 -- The bytes of a call of j's that points at nothing outside are the message as they are: hand, take, and the acts of
 -- the peer's own.
 use Prim.Native.Nat.{ℕ, _<_}
-use mathlib.Core.Bool.{Bool, true, false, _&&_}
+use mathlib.Core.Bool.{Bool, true, false}
 use mathlib.Core.List.{List}
 use mathlib.Core.Option.{some}
-use mathlib.Core.Path.{_≡_, refl, sym, ap, _∙_, subst}
+use mathlib.Core.Path.{_≡_, refl, sym, ap, _∙_}
 use lib.Dec.{eqb}
 use borrow.Author.Tests.{eqb-true}
 use Rattle.base.specs.Bytes.{byteAt}
@@ -18,10 +18,10 @@ use Rattle.rules.specs.State.{State}
 use Rattle.rules.specs.Form.{read}
 use Rattle.form.specs.Written.{written}
 use Rattle.form.proofs.Written.{both-ways}
-use Rattle.field_rules.specs.Message.{Message, handed, taken, fetched, told, signs, shares, closes, hashes, backs, falls, rises}
+use Rattle.field_rules.specs.Message.{Message, handed, taken, fetched, signs, shares, closes, hashes, backs, falls, rises}
 use Rattle.field_rules.specs.MessageBytes.{messageBytes, isFilled}
 use Rattle.field_runs.specs.Passed.{when, passed, passedCall}
-use Rattle.field_runs.proofs.Step.{none-some, when-some}
+use Rattle.field_runs.proofs.Passing.{none-some, when-some}
 
 module _ (T : Table) (j : ℕ) (s : State) where
   -- the message m has the bytes of the step, where the step names j

@@ -30,7 +30,8 @@ use Rattle.field_runs.specs.Passed.{passed, sentBy, passedCall, sentCall
 use Rattle.field_rules.specs.Replies.{boxAfter}
 use Rattle.field_runs.specs.Beside.{withMessage, notFull, fedWith, roomIn, passes, messages, neitherFull, Part, InStep}
 use Rattle.field_runs.proofs.Like.{right}
-use Rattle.field_runs.proofs.Step.{none-some, neg, a-peer, Match, matched, stays}
+use Rattle.field_runs.proofs.Passing.{none-some, neg, a-peer}
+use Rattle.field_runs.proofs.Step.{Match, matched, stays}
 
 pub fresh-part : (j : ℕ) → Part fresh j freshBox
 unfolding isIn

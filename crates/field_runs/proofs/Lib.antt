@@ -1,5 +1,6 @@
 pub mod Like
 pub mod Own
+pub mod Passing
 pub mod Step
 pub mod InStep
 pub mod Delivered

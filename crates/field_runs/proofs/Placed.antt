@@ -23,7 +23,7 @@ use Rattle.field_rules.specs.Rules.{handle}
 use Rattle.field_runs.specs.Passed.{when, passed, passedCall}
 use Rattle.field_rules.specs.BoxIn.{InPlace}
 use Rattle.field_rules.specs.MessageBytes.{to, messageBytes, readAs, InBytes, handleReading}
-use Rattle.field_runs.proofs.Step.{none-some, when-some}
+use Rattle.field_runs.proofs.Passing.{none-some, when-some}
 use Rattle.field_rules.proofs.MessageBytes.{reads-back}
 
 abbrev Placed : Message → Type 0

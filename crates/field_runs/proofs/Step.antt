@@ -1,4 +1,5 @@
--- One step beside what it passes: the two rows of refusals are alike, what is sent is the same, and the box has j's part after it.
+-- One step beside what it passes: the two rows of refusals are alike, what is sent is the same, and the box has j's part
+-- after it.
 use Prim.Native.Nat.{ℕ, _+_, _^_, _≤_, _<_}
 use native.Mathlib.Omega.{arith}
 use mathlib.Core.Bool.{Bool, true, false, _&&_, _||_, not}
@@ -6,11 +7,9 @@ use mathlib.Core.List.{List}
 use mathlib.Core.Option.{none, some}
 use mathlib.Core.Path.{_≡_, refl, sym, ap, _∙_, subst, fun-ext}
 use lib.Dec.{eqb, ltb}
-use borrow.Author.Tests.{eqb-true, ne-eqb, lt-ltb, le-ltb, not-true, not-false}
+use borrow.Author.Tests.{eqb-true, ne-eqb, lt-ltb, not-true, not-false}
 use Rattle.base.specs.Sets.{add3, add4}
 use Rattle.base.proofs.Truth.{split, is-false, not-i, and-i, and-l, and-r, eqb-self, eqb-sym}
-use Rattle.base.specs.Below.{any}
-use Rattle.base.proofs.Below.{any-found}
 use Rattle.base.proofs.Sets.{at-set}
 use Rattle.rules.specs.declared.Entry.{Entry}
 use Rattle.rules.specs.declared.Entry.the-variants.{Hash}
@@ -19,69 +18,21 @@ use Rattle.rules.specs.declared.Step.the-variants.{Post, Hand, Sign, Take, Shar
 use Rattle.rules.specs.Table.{Table, quorum}
 use Rattle.rules.specs.Bag.{sameEntry, isIn, entryAt, enter, isHash, signerOf, periodOf, boardOf, unheard}
 use Rattle.rules.specs.State.{State}
-use Rattle.rules.specs.Rules.{rule, boardBy, noPeer, noPeriod, noItem, noBoard}
+use Rattle.rules.specs.Rules.{rule, boardBy, noPeer, noPeriod, noBoard}
 use Rattle.rules.specs.Valid.{Valid, Peer}
 use Rattle.rules.proofs.Answered.{Clear, judged}
 use Rattle.rules.proofs.Backed.{backed}
 use Rattle.rules.proofs.Bag.{in-enter, hash-in}
 use Rattle.field_rules.specs.Box.{Box}
-use Rattle.field_rules.specs.Message.{Message, handed, taken, fetched, told, signs, shares, closes, hashes, backs, falls, rises, rowItems, rowPeers}
-use Rattle.field_rules.specs.Rules.{strayRows, fieldRule}
+use Rattle.field_rules.specs.Message.{Message, handed, taken, fetched, told, signs, shares, closes, hashes, backs, falls, rises}
+use Rattle.field_rules.specs.Rules.{fieldRule}
 use Rattle.field_runs.specs.Passed.{when, fetchable, passed, sendsOf, partOf}
 use Rattle.field_runs.specs.Beside.{Part}
+use Rattle.field_runs.proofs.Passing.{none-some, neg, when-some, when-none, a-peer, heard-else, rows-in}
 use Rattle.field_runs.proofs.Like.{Like, done, keep, equal, left, right, full-left, full-right}
 use Rattle.field_runs.proofs.Own.{own3, own4, own-rows, still3, still4, still-rows, still-set}
 
-pub none-some : {A : Type 0} (n : A) → none ≡ some n → ⊥
-none-some n e = let z : _≡_ {A = ℕ} 0 1 = cc in omega (arith, z)
-
-pub neg : (b : Bool) → b ≡ true → not b ≡ false
-neg true e = refl
-neg false e = sym e
-
--- what a test of passing says
-
-pub when-some : {A : Type 0} (t : Bool) (m n : A) → when t m ≡ some n → (t ≡ true) × (m ≡ n)
-unfolding when
-when-some true m n e = (refl, cc)
-when-some false m n e = absurd (none-some n e)
-
-when-none : {A : Type 0} (t : Bool) (m : A) → when t m ≡ none → t ≡ false
-unfolding when
-when-none true m e = absurd (none-some m (sym e))
-when-none false m e = refl
-
--- names in range pass
-
 module _ (T : Table) where
-  pub a-peer : (k : ℕ) → Peer T k → noPeer (T .n) k ≡ false
-  a-peer k h = rw (ne-eqb k 0 (omega (arith, h .0)), le-ltb (T .n) k (h .1))
-
-  -- a clear leaves what is heard of other periods
-  heard-else : (q : ℕ) (heard : ℕ → ℕ → ℕ → ℕ → Bool) (j k p B : ℕ) → eqb p q ≡ false → unheard q heard j k p B ≡ heard j k p B
-  unfolding unheard
-  heard-else q heard j k p B e = rw e
-
-  -- rows of a valid state have no item and no signer out of range
-  rows-in : (s : State) → Valid T s → (k p : ℕ) → strayRows T (s .db k p) ≡ false
-  unfolding strayRows
-  rows-in s G k p = is-false _ (λ e. in-items (any-found rowItems (λ x. any rowPeers (λ l. stray x (l + 1))) e))
-    where
-      stray : ℕ → ℕ → Bool
-      stray x l = s .db k p x l && (noItem (T .items) x || noPeer (T .n) l)
-
-      no-stray : (x l : ℕ) → stray x l ≡ true → ⊥
-      no-stray x l e =
-          let known = G .sets .knows k p x l (and-l (s .db k p x l) _ e) in
-          let item : noItem (T .items) x ≡ false = rw (lt-ltb x (T .items) (known .0 .1 .1)) in
-          split (and-r (s .db k p x l) _ e) (rw (item, a-peer l (known .1)))
-
-      in-items : (x : ℕ) × (x < rowItems) × (any rowPeers (λ l. stray x (l + 1)) ≡ true) → ⊥
-      in-items (x, m, e) = in-peers (any-found rowPeers (λ l. stray x (l + 1)) e)
-        where
-          in-peers : (l : ℕ) × (l < rowPeers) × (stray x (l + 1) ≡ true) → ⊥
-          in-peers (l, i, d) = no-stray x (l + 1) d
-
   module _ (j : ℕ) (peer : Peer T j) (honest : T .honest j ≡ true) (s : State) (G : Valid T s) (H : List Entry)
       (A : (k p B : ℕ) → s .toBack j ≤ p → isIn (Hash k p B) H ≡ s .heard j k p B) where
     abbrev b : Box
@@ -93,7 +44,7 @@ module _ (T : Table) where
       pub after : Part (rule T s st .effect) j (fieldRule T j b m .effect)
 
     my-name : noPeer (T .n) j ≡ false
-    my-name = a-peer j peer
+    my-name = a-peer T j peer
 
     my-role : not (T .honest j) ≡ false
     my-role = rw honest
@@ -181,7 +132,7 @@ module _ (T : Table) where
         let closed : ltb p (s .current k) ≡ true = search (and-l, and-r) in
         record {
           like = left my-name
-              (keep (keep (right (rows-in s G k p)
+              (keep (keep (right (rows-in T s G k p)
               (left my-role
               (left (neg (T .honest k) its-role)
               (keep (left (not-true _ is-up) (keep (left (neg (ltb p (s .current k)) closed) done)))))))));
@@ -208,7 +159,7 @@ module _ (T : Table) where
         record {
           like = left my-name
               (left my-role
-              (right (a-peer k (fit .0)) (right no-period (right no-board (keep (left (neg (isHash a) h) (keep full-right)))))));
+              (right (a-peer T k (fit .0)) (right no-period (right no-board (keep (left (neg (isHash a) h) (keep full-right)))))));
           sent = refl;
           after = record { own = refl; heard = heard-more k p B };
         }
@@ -309,8 +260,10 @@ module _ (T : Table) where
         (and-i _ _ (not-false (T .honest k) (c .1 .1 .1 .1 .0)) (and-i _ _ is-up closed)) in
         record {
           silent = refl;
-          still = record
-              { own = rw (still-rows i j (barred i (fetchable T s k p) (fetched k p (s .db k p)) e there) p (s .db k p) (s .db)); heard = A };
+          still = record {
+            own = rw (still-rows i j (barred i (fetchable T s k p) (fetched k p (s .db k p)) e there) p (s .db k p) (s .db));
+            heard = A;
+          };
         }
     stays (SendHash i p) e c = record { silent = nothing i _ (when-none (eqb i j) (hashes p) e); still = record { own = refl; heard = A } }
     stays (Hear i a) e c =
@@ -340,5 +293,5 @@ module _ (T : Table) where
     stays (ClearHashes q) e c = record { silent = refl; still = record { own = refl; heard = λ k p B d. A k p B d ∙ kept k p B d } }
       where
         kept : (k p B : ℕ) → s .toBack j ≤ p → s .heard j k p B ≡ unheard q (s .heard) j k p B
-        kept k p B d = sym (heard-else q (s .heard) j k p B
+        kept k p B d = sym (heard-else T q (s .heard) j k p B
             (ne-eqb p q (λ u. absurd (omega (arith, d, u, backed T (s .toBack) q (c .1 .0) j honest peer)))))

@@ -19,7 +19,10 @@ use Rattle.field_runs.specs.Beside.{withMessage, withReply, fedWith, roo
 use Rattle.field_runs.specs.Worked.{WorkedBox}
 
 pub worked-box : WorkedBox
-unfolding first any pack numberAt add1 add2 add3 add4 setAt weight clashing sameEntry isIn enter isFull withoutHashes allZero formed select laterOps ops read boardFrom addRows unheard unbacked rule answer next reply leave storeFrom answersFrom strayRows ownRows fieldRule handleAnswer handle when fetchable passed sendsOf sentBy passedCall sentCall withMessage withReply withSent boxAfter boxReplies boxSends fedWith roomIn messages replies allSent neitherFull alwaysBelow
+unfolding first any pack numberAt add1 add2 add3 add4 setAt weight clashing sameEntry isIn enter isFull withoutHashes allZero formed
+    select laterOps ops read boardFrom addRows unheard unbacked rule answer next reply leave storeFrom answersFrom strayRows ownRows
+    fieldRule handleAnswer handle when fetchable passed sendsOf sentBy passedCall sentCall withMessage withReply withSent boxAfter
+    boxReplies boxSends fedWith roomIn messages replies allSent neitherFull alwaysBelow
 worked-box = record {
   answers = refl;
   box = refl;

@@ -1,4 +1,4 @@
--- A worked run of the two peers of the field's worked day with the box of peer 1 beside it: what it should answer and send.
+-- A worked run of the two peers of the worked day, with the box of peer 1 beside it: what it should answer and send.
 use Prim.Native.Nat.{ℕ}
 use mathlib.Core.Bool.{true, false}
 use mathlib.Core.List.{List, [], _∷_}

@@ -181,7 +181,8 @@ pub append-done : (s u t : List ℕ) (k p B n : ℕ) → Canon s → heardCount 
 unfolding appended
 append-done s u t k p B n c left new m w q =
     subst (λ (r : List ℕ). Holds r (hearing k p B (boxOf s)))
-    (sym (q ∙ ap₂ (λ (a : List ℕ) (k : ℕ). stored countBytes a countAt (k + 1)) (w .0 ∙ ap (λ (m : ℕ). hashWritten s (hashStart m) k p B) m) m))
+    (sym (q ∙ ap₂ (λ (a : List ℕ) (k : ℕ). stored countBytes a countAt (k + 1))
+    (w .0 ∙ ap (λ (m : ℕ). hashWritten s (hashStart m) k p B) m) m))
     (append-holds s k p B c left (w .1 .0) (w .1 .1 .0) (w .1 .1 .1) new)
 
 pub heard-there : (s : List ℕ) (k p B : ℕ) {r : Bool} → Canon s → r ≡ isIn (Hash k p B) (heardIn s) → r ≡ true

@@ -68,7 +68,8 @@ fn set_to_back(s: &mut [u8], v: u8)
 // The open period rises by one.
 pub fn raise_current(s: &mut [u8])
     requires { ⌜ Canon (now s) × (boxOf (now s) .current < 255) ⌝ }
-    ensures { λ _. ⌜ Holds (now (s .exit)) (withCurrent (boxOf (now (s .entry)) .current + 1) (boxOf (now (s .entry)))) ⌝ }
+    ensures { λ _. ⌜ Holds (now (s .exit))
+        (withCurrent (boxOf (now (s .entry)) .current + 1) (boxOf (now (s .entry)))) ⌝ }
 {
     let k = counters::after_close(counters_of(s));
     set_current(s, k.current);
@@ -77,7 +78,8 @@ pub fn raise_current(s: &mut [u8])
 // The next period to back rises by one.
 pub fn raise_to_back(s: &mut [u8])
     requires { ⌜ Canon (now s) × (boxOf (now s) .toBack < 255) ⌝ }
-    ensures { λ _. ⌜ Holds (now (s .exit)) (withToBack (boxOf (now (s .entry)) .toBack + 1) (boxOf (now (s .entry)))) ⌝ }
+    ensures { λ _. ⌜ Holds (now (s .exit))
+        (withToBack (boxOf (now (s .entry)) .toBack + 1) (boxOf (now (s .entry)))) ⌝ }
 {
     let k = counters::after_back(counters_of(s));
     set_to_back(s, k.to_back);

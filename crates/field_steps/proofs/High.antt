@@ -38,7 +38,8 @@ down (suc i) v = down i (v / 256)
 down-is : (i v : ℕ) → down i v ≡ v / 256 ^ i
 down-is zero v = sym (div-one v)
 down-is (suc i) v =
-    down-is i (v / 256) ∙ div-div-eq-div-mul v 256 (256 ^ i) ∙ ap (λ (n : ℕ). v / n) {x = 256 * 256 ^ i} {y = 256 ^ suc i} (omega (arith, pow-suc 256 i))
+    down-is i (v / 256) ∙ div-div-eq-div-mul v 256 (256 ^ i)
+    ∙ ap (λ (n : ℕ). v / n) {x = 256 * 256 ^ i} {y = 256 ^ suc i} (omega (arith, pow-suc 256 i))
 
 written-over : (f : ℕ → ℕ) (op j p x v : ℕ)
     → storedHigh 8 (set (set (set (set (set (tab 13 f) 0 op) 1 j) 2 0) 3 p) 4 x) 5 v ≡ bytesOf (of op j 0 p x v)

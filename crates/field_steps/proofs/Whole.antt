@@ -31,12 +31,14 @@ module _ (h : Head) (clash : ℕ → ℕ → Bool) (j : ℕ) (s : List ℕ) (m :
   pub clear : {a : ℕ} → a ≡ answerBy h clash j s m → a ≡ 0
       → Passed (fieldRule (tableOf h clash) j (boxOf s) m .refusals)
   unfolding handleAnswer
-  clear e z = passed ((name, noPeer (h .n) j) ∷ (role, not (isHonest h j)) ∷ fieldRule (tableOf h clash) j (boxOf s) m .refusals) (sym e ∙ z) .1
+  clear e z = passed
+      ((name, noPeer (h .n) j) ∷ (role, not (isHonest h j)) ∷ fieldRule (tableOf h clash) j (boxOf s) m .refusals) (sym e ∙ z) .1
       .1
 
   pub own-name : {a : ℕ} → a ≡ answerBy h clash j s m → a ≡ 0 → noPeer (h .n) j ≡ false
   unfolding handleAnswer
-  own-name e z = passed ((name, noPeer (h .n) j) ∷ (role, not (isHonest h j)) ∷ fieldRule (tableOf h clash) j (boxOf s) m .refusals) (sym e ∙ z)
+  own-name e z = passed
+      ((name, noPeer (h .n) j) ∷ (role, not (isHonest h j)) ∷ fieldRule (tableOf h clash) j (boxOf s) m .refusals) (sym e ∙ z)
       .0
 
 module _ (h : Head) (j : ℕ) (s : List ℕ) (m : Message) (o : List ℕ) where

@@ -27,7 +27,9 @@ loop-again c = (
 )
 
 returns : tie.Need-returns Inv-loop μ-loop
-returns c = let l = c .before .loop .inv in gather-end _ _ _ _ _ (l .0) (c .loop-test .left) (c .before .before .heard-len .ensures .0) (l .1)
+returns c =
+    let l = c .before .loop .inv in
+    gather-end _ _ _ _ _ (l .0) (c .loop-test .left) (c .before .before .heard-len .ensures .0) (l .1)
 
 pub hash-signers-spec : {M : Type 1} → statement M
 hash-signers-spec = tie.close

@@ -1,4 +1,3 @@
-use mathlib.Core.Path.{sym, _∙_}
 use Rattle.bag_guard.proofs.Full.{full-room, full-at}
 use Rattle.field_state.proofs.Hashes.{heard-length}
 use borrow.Author.Needs.{needs}

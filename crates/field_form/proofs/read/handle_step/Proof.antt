@@ -1,7 +1,7 @@
-use Rattle.field.proofs.Readings.{step-thirteen, other-step}
+use Rattle.field_form.proofs.Readings.{step-thirteen, other-step}
 use borrow.Author.Needs.{needs}
-use Rattle.field.proofs.read.handle_step.Statement.{statement}
-use Rattle.field.proofs.read.handle_step.Tie as tie
+use Rattle.field_form.proofs.read.handle_step.Statement.{statement}
+use Rattle.field_form.proofs.read.handle_step.Tie as tie
 
 returns : tie.Need-returns
 returns c = search other-step

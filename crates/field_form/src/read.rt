@@ -6,10 +6,10 @@ ghost use Rattle.clash.specs.Clash.{clashIn};
 ghost use Rattle.view.specs.View.{noClash, tableOf};
 ghost use Rattle.field_rules.specs.MessageBytes.{choose, readMessage, readStep};
 ghost use Rattle.field_state.specs.Ready.{Ready};
 ghost use Rattle.field_form.specs.Handling.{HandlesReading, SendsReading};
 ghost use Rattle.field_rules.specs.MessageBytes.{brought, rowsBrought, own};
+use crate::op;
 use base::byte_at;
-use field_form::op;
 use form::all_zero;
 use header::Head;
 

@@ -27,7 +27,8 @@ module _ (T : Table) (j : ℕ) (s t : List ℕ) (op n : ℕ) (rest : List (ℕ �
   unfolding choose
   here m i ok z {r} e f H = rw (eq-eqb op n e) (subst (λ (b : Bool). HandlesReading T j s t (reading b i m) r) f H)
 
-  pub skip : (L : Reading) {r : ℕ} → (op ≡ n → ⊥) → HandlesReading T j s t (choose op rest) r → HandlesReading T j s t (choose op ((n, L) ∷ rest)) r
+  pub skip : (L : Reading) {r : ℕ} → (op ≡ n → ⊥) → HandlesReading T j s t (choose op rest) r
+      → HandlesReading T j s t (choose op ((n, L) ∷ rest)) r
   unfolding choose
   skip L d H = rw (ne-eqb op n d) H
 
@@ -68,10 +69,10 @@ pub ruleset by-op = (here, skip, no-op, too-take, too-hear)
 
 pub ruleset by-step = (here-sent, skip-sent, no-op-sent)
 
-formless-too : (h : Head) (clash : ℕ → ℕ → Bool) (j : ℕ) (s t : List ℕ) (r : ℕ) → HandlesReading (tableOf h noClash) j s t malformed r
+malformed-too : (h : Head) (clash : ℕ → ℕ → Bool) (j : ℕ) (s t : List ℕ) (r : ℕ) → HandlesReading (tableOf h noClash) j s t malformed r
     → HandlesReading (tableOf h clash) j s t malformed r
 unfolding handleReading
-formless-too h clash j s t r H = record { answers = H .answers; leaves = H .leaves }
+malformed-too h clash j s t r H = record { answers = H .answers; leaves = H .leaves }
 
 -- a fetch is handled in the same way whatever clashes
 fetch-too : (h : Head) (clash : ℕ → ℕ → Bool) (j : ℕ) (s t : List ℕ) (r op i k p x B : ℕ) (m : List ℕ)
@@ -83,7 +84,7 @@ fetch-too h clash j s t r op i k p x B m = go (eqb op 8)
     go : (b : Bool) → HandlesReading (tableOf h noClash) j s t (cond b (reading (allZero x 0 0 B) i (fetched k p (rowsIn m))) malformed) r
         → HandlesReading (tableOf h clash) j s t (cond b (reading (allZero x 0 0 B) i (fetched k p (rowsIn m))) malformed) r
     go true H = too-fetch h clash j s t r i (allZero x 0 0 B) k p (rowsIn m) H
-    go false H = formless-too h clash j s t r H
+    go false H = malformed-too h clash j s t r H
 
 module _ (m : List ℕ) (op i k p x B : ℕ) (a : op ≡ byteAt m 0) (b : i ≡ byteAt m 1) (c : k ≡ byteAt m 2) (d : p ≡ byteAt m 3)
     (e : x ≡ byteAt m 4)
@@ -113,6 +114,7 @@ module _ (m : List ℕ) (op i k p x B : ℕ) (a : op ≡ byteAt m 0) (b : i ≡ 
   fetch-long h clash j s t {r} H l = subst (λ (L : Reading). HandlesReading (tableOf h clash) j s t L r) (reads-141 l)
       (fetch-too h clash j s t r op i k p x B m H)
 
-  pub step-thirteen : (T : Table) (j : ℕ) (s t o u : List ℕ) {r : ℕ} → SendsReading T j s t (choose op (own i k p x B)) o u r → length m ≡ 13
+  pub step-thirteen : (T : Table) (j : ℕ) (s t o u : List ℕ) {r : ℕ} → SendsReading T j s t (choose op (own i k p x B)) o u r
+      → length m ≡ 13
       → SendsReading T j s t (readStep m) o u r
   step-thirteen T j s t o u {r} H l = subst (λ (L : Reading). SendsReading T j s t L o u r) (reads-step l) H

@@ -1,7 +1,7 @@
-use Rattle.field.proofs.Readings.{thirteen, fetch-long, other-message}
+use Rattle.field_form.proofs.Readings.{thirteen, fetch-long, other-message}
 use borrow.Author.Needs.{needs}
-use Rattle.field.proofs.read.handle_message.Statement.{statement}
-use Rattle.field.proofs.read.handle_message.Tie as tie
+use Rattle.field_form.proofs.read.handle_message.Statement.{statement}
+use Rattle.field_form.proofs.read.handle_message.Tie as tie
 
 returns : tie.Need-returns
 returns c = search thirteen
