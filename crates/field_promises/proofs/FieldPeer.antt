@@ -94,9 +94,13 @@ module _ (table : List ℕ) (fit : refusal table ≡ 0) (j : ℕ) (peer : Peer (
   all-placed : (calls : List (List ℕ)) → AllPlaced (messages (rulesTable table) j (byBytes table) freshState calls)
   all-placed calls = placed-calls table fit j out long freshState engine-ready calls
 
+  pub same-room : (calls : List (List ℕ))
+      → neitherFullOn table j out freshState zeros calls ≡ neitherFull (rulesTable table) j (byBytes table) freshState freshBox calls
+  same-room calls = room-same table fit j out long calls freshState engine-ready zeros freshBox starts-ready starts-fresh
+
   roomy : (calls : List (List ℕ)) → neitherFullOn table j out freshState zeros calls ≡ true
       → neitherFull (rulesTable table) j (byBytes table) freshState freshBox calls ≡ true
-  roomy calls r = sym (room-same table fit j out long calls freshState engine-ready zeros freshBox starts-ready starts-fresh) ∙ r
+  roomy calls r = sym (same-room calls) ∙ r
 
   -- a store and bytes beside each other
   now-in-step : (y s : List ℕ) → Fits-engine (headOf table) y → Ready (headOf table) s
@@ -166,8 +170,7 @@ module _ (table : List ℕ) (fit : refusal table ≡ 0) (j : ℕ) (peer : Peer (
     box = λ calls. fed-holds table fit j out long _ (all-placed calls) zeros freshBox starts-ready starts-fresh;
     delivers = λ y S. one .delivers y (ready-state table fit y S);
     in-its-name = λ y S. one .in-its-name y (ready-state table fit y S);
-    room = λ calls l.
-        room-same table fit j out long calls freshState engine-ready zeros freshBox starts-ready starts-fresh ∙ one .room calls l;
+    room = λ calls l. same-room calls ∙ one .room calls l;
     only-messages = same-messages;
     again = λ s B m. once-more table fit j out long s (box-ready table fit s B) m;
     as-it-is = one .as-it-is;

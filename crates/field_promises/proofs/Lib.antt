@@ -3,3 +3,4 @@ pub mod Runs
 pub mod Kept
 pub mod Beside
 pub mod FieldPeer
+pub mod Worked

@@ -1,3 +1,4 @@
 pub mod Fed
 pub mod FieldPeer
 pub mod Kept
+pub mod Worked

@@ -10,5 +10,6 @@ pub mod OnlyMessages
 pub mod Placed
 pub mod Valid
 pub mod AsItIs
+pub mod ByRules
 pub mod OnePeer
 pub mod Worked
