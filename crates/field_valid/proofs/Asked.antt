@@ -12,14 +12,12 @@ use Rattle.base.proofs.Truth.{and-false}
 use Rattle.bits.specs.Row.{zeros}
 use Rattle.bits.specs.Number.{num}
 use Rattle.header.specs.declared.Head.{Head}
-use Rattle.state.specs.Layout.{periods, items, entries, peerBytes, itemBytes}
-use Rattle.state.specs.Places.{cell}
+use Rattle.state.specs.Layout.{entries, itemBytes}
 use Rattle.view.specs.Ready.{Room}
-use Rattle.field_state.specs.Layout.{knownAt, currentAt, toBackAt, downAt, hashStart, size}
+use Rattle.field_state.specs.Layout.{currentAt, toBackAt, downAt, hashStart, size}
 use Rattle.field_state.specs.Holding.{heardCount}
 use Rattle.field_state.specs.Hearing.{sameAt}
-use Rattle.field_state.specs.Width.{widthAt}
-use Rattle.field_valid.specs.BoxOk.{rowWidth, spotWidth, cellOk, spotOk, spotsIn, numbersOk, hashOk, newAt, hashesOk}
+use Rattle.field_valid.specs.BoxOk.{rowWidth, cellOk, numbersOk, hashOk, newAt, hashesOk}
 
 module _ (h : Head) where
   pub row-in : (p : ℕ) → p < h .periods → h .items ≡ rowWidth h p
@@ -30,14 +28,6 @@ module _ (h : Head) where
   unfolding rowWidth
   row-out p l = rw (le-ltb p (h .periods) l)
 
-  pub spot-in : (p x : ℕ) {w : ℕ} → p < h .periods → w ≡ widthAt h x → w ≡ spotWidth h p x
-  unfolding spotWidth
-  spot-in p x l e = rw (lt-ltb p (h .periods) l) e
-
-  pub spot-out : (p x : ℕ) → h .periods ≤ p → 0 ≡ spotWidth h p x
-  unfolding spotWidth
-  spot-out p x l = rw (le-ltb p (h .periods) l)
-
   pub row-fits : (p w : ℕ) → Room h → w ≡ rowWidth h p → w ≤ 64
   unfolding rowWidth
   row-fits p w room e = rw e (go (ltb p (h .periods)))
@@ -46,30 +36,11 @@ module _ (h : Head) where
       go true = room .items
       go false = omega arith
 
-  pub spot-fits : (p x w : ℕ) → Room h → w ≡ spotWidth h p x → w ≤ 64
-  unfolding spotWidth widthAt
-  spot-fits p x w room e = rw e (go (ltb p (h .periods)) (ltb x (h .items)))
-    where
-      go : (t u : Bool) → cond t (cond u (h .n) 0) 0 ≤ 64
-      go true true = omega (arith, room .peers)
-      go true false = omega arith
-      go false u = omega arith
-
   module _ (s : List ℕ) where
     pub cell-read : (o p q v w : ℕ) {r : Bool} → q ≡ p → v ≡ num itemBytes s (o + itemBytes * q) → w ≡ rowWidth h p → r ≡ ltb v (2 ^ w)
         → r ≡ cellOk h s o p
     unfolding cellOk
     cell-read o p q v w i e f g = g ∙ ap₂ (λ (v w : ℕ). ltb v (2 ^ w)) (e ∙ ap (λ (n : ℕ). num itemBytes s (o + itemBytes * n)) i) f
-
-    pub spot-read : (p x n v w : ℕ) {r : Bool} → n ≡ cell p x → v ≡ num peerBytes s (knownAt + peerBytes * n) → w ≡ spotWidth h p x
-        → r ≡ ltb v (2 ^ w)
-        → r ≡ spotOk h s p x
-    unfolding spotOk
-    spot-read p x n v w i e f g = g ∙ ap₂ (λ (v w : ℕ). ltb v (2 ^ w)) (e ∙ ap (λ (n : ℕ). num peerBytes s (knownAt + peerBytes * n)) i) f
-
-    pub spots-all : (p : ℕ) {r : Bool} → r ≡ every items (spotOk h s p) → r ≡ spotsIn h s p
-    unfolding spotsIn
-    spots-all p e = e
 
     -- the counters
     pub open-above : h .periods < byteAt s currentAt → false ≡ numbersOk h s

@@ -1,25 +1,26 @@
 // Row 14: whether a lent buffer is a state of the field peer. It need not be one that messages lead to.
 // It uses field_state's layout, bits to read, and bag_valid's marks.
 ghost use mathlib.Core.Path.{_≡_};
-ghost use Prim.Native.Nat.{_+_, _*_, _<_, _≤_};
+ghost use Prim.Native.Nat.{_+_, _*_, _^_, _<_, _≤_};
+ghost use lib.Dec.{ltb};
 ghost use lib.ListN.{length};
 ghost use Rattle.base.specs.Below.{every};
-ghost use Rattle.state.specs.Layout.{periods, items, entries};
-ghost use Rattle.state.specs.Facts.{Cell};
+ghost use Rattle.state.specs.Layout.{periods, entries};
 ghost use Rattle.view.specs.Ready.{Room};
 ghost use Rattle.field_state.specs.Layout.{size};
-ghost use Rattle.field_valid.specs.BoxOk.{rowWidth, spotWidth, cellOk, spotOk, spotsIn, numbersOk, hashOk, hashesOk, boxOk};
+ghost use Rattle.field_valid.specs.SignerSets.{signersOk};
+ghost use Rattle.field_valid.specs.BoxOk.{rowWidth, cellOk, spotsIn, numbersOk, hashOk, hashesOk, boxOk};
 use crate::distinct::all_new;
 use base::wide;
 use field_state::layout;
-use field_state::width::width_at;
 use header::Head;
 use state::layout::ENTRIES;
 use state::layout::ITEM_BYTES;
 use state::layout::PEER_BYTES;
-use state::place::cell_of;
 
 mod distinct; // no two heard hashes are the same
+
+const ROW_BYTES: usize = 128; // of the sets of signers of one period
 
 // How many bits a set of items of period p may have.
 fn row_width(h: Head, p: u8) -> u8
@@ -27,16 +28,6 @@ fn row_width(h: Head, p: u8) -> u8
 {
     if p < h.periods {
         return h.items;
-    }
-    0
-}
-
-// How many bits a set of signers on item x of period p may have.
-fn spot_width(h: Head, p: u8, x: u8) -> u8
-    ensures { λ r. ⌜ r ≡ spotWidth h p x ⌝ }
-{
-    if p < h.periods {
-        return width_at(h, x);
     }
     0
 }
@@ -65,43 +56,68 @@ fn cells_ok(s: &[u8], h: Head, o: usize) -> bool
     true
 }
 
-// The set of signers on item x of period p has peers of the table only.
-fn spot_ok(s: &[u8], h: Head, p: u8, x: u8) -> bool
-    requires { ⌜ Room h × ((length (now s) ≡ size) × Cell p x) ⌝ }
-    ensures { λ r. ⌜ r ≡ spotOk h (now (s .entry)) p x ⌝ }
+// Whether a set of signers has only the first n peers.
+fn is_narrow(v: u16, n: u8) -> bool
+    requires { ⌜ n ≤ 64 ⌝ }
+    ensures { λ r. ⌜ r ≡ ltb v (2 ^ n) ⌝ }
 {
-    let v = bits::word(s, layout::KNOWN + PEER_BYTES * cell_of(p, x));
-    bits::is_below(v as u64, spot_width(h, p, x))
+    bits::is_below(v as u64, n)
 }
 
-// So has the set of each item of period p.
-fn spots_in(s: &[u8], h: Head, p: u8) -> bool
-    requires { ⌜ Room h × ((length (now s) ≡ size) × (p < periods)) ⌝ }
-    ensures { λ r. ⌜ r ≡ spotsIn h (now (s .entry)) p ⌝ }
+// Of the sets of signers from byte o on, those on items of the table have peers of the table only.
+// The loop gathers and asks at its end, so that it takes many sets at a time.
+fn signers_ok(s: &[u8], h: Head, o: usize) -> bool
+    requires { ⌜ Room h × ((length (now s) ≡ size) × (o ≤ 1024)) ⌝ }
+    ensures { λ r. ⌜ r ≡ every (h .items) (signersOk (h .n) (now (s .entry)) o) ⌝ }
 {
-    let mut x: u8 = 0;
-    while x < 64 {
-        if !spot_ok(s, h, p, x) {
-            return false;
-        }
+    let m = wide(h.items);
+    let mut sum: u16 = 0;
+    let mut x = 0;
+    while x < m {
+        sum = sum | bits::word(s, o + PEER_BYTES * x);
         x += 1;
     }
-    true
+    is_narrow(sum, h.n)
 }
 
-// So has the set of each period and item.
-fn spots_ok(s: &[u8], h: Head) -> bool
+// The set of each item of period p has peers of the table only. Behind the table's items all bytes are 0.
+fn spots_in(s: &[u8], h: Head, p: u8) -> bool
+    requires { ⌜ Room h × ((length (now s) ≡ size) × (p < h .periods)) ⌝ }
+    ensures { λ r. ⌜ r ≡ spotsIn h (now (s .entry)) p ⌝ }
+{
+    let o = layout::KNOWN + ROW_BYTES * wide(p);
+    let used = PEER_BYTES * wide(h.items);
+    if !bits::all_zero(s, o + used, ROW_BYTES - used) {
+        return false;
+    }
+    signers_ok(s, h, o)
+}
+
+// So have the sets of each of the table's periods.
+fn each_spots(s: &[u8], h: Head) -> bool
     requires { ⌜ Room h × (length (now s) ≡ size) ⌝ }
-    ensures { λ r. ⌜ r ≡ every periods (spotsIn h (now (s .entry))) ⌝ }
+    ensures { λ r. ⌜ r ≡ every (h .periods) (spotsIn h (now (s .entry))) ⌝ }
 {
     let mut p: u8 = 0;
-    while p < 8 {
+    while p < h.periods {
         if !spots_in(s, h, p) {
             return false;
         }
         p += 1;
     }
     true
+}
+
+// So have the sets of each period. Behind the table's periods all bytes are 0.
+fn spots_ok(s: &[u8], h: Head) -> bool
+    requires { ⌜ Room h × (length (now s) ≡ size) ⌝ }
+    ensures { λ r. ⌜ r ≡ every periods (spotsIn h (now (s .entry))) ⌝ }
+{
+    let end = layout::KNOWN + ROW_BYTES * wide(h.periods);
+    if !bits::all_zero(s, end, layout::CURRENT - end) {
+        return false;
+    }
+    each_spots(s, h)
 }
 
 // The counters and the flag are in range.
