@@ -1,5 +1,5 @@
--- What is promised of the field peer is not empty: case R of document 01, on its fifteen-byte table, with the box of its
--- peer beside it. docs/FIELD.md has the same bytes.
+-- What is promised of the field peer is not empty: case R of document 01, on its fifteen-byte table, with the box of
+-- its peer beside it. docs/FIELD.md has the same bytes.
 use Prim.Native.Nat.{ℕ}
 use mathlib.Core.Bool.{true}
 use mathlib.Core.List.{List, [], _∷_}

@@ -37,7 +37,7 @@ module _ (T : Table) (j : ℕ) (s : State) where
 
   step-as-it-is : (st : Step) (m : Message) → passed T j s st ≡ some m → isFilled m ≡ false → messageBytes j m ≡ written st
   unfolding passed messageBytes isFilled
-  step-as-it-is (Hand i x) m e n = own-bytes (λ i. Hand i x) i _ (handed x) m e (and-l (eqb i j) (s .posted x)) refl
+  step-as-it-is (Hand i x) m e n = own-bytes (λ i. Hand i x) i _ (handed x) m e (and-l (eqb i j) _) refl
   step-as-it-is (Take i k p x) m e n = own-bytes (λ i. Take i k p x) i _ (taken k p x) m e (and-l (eqb i j) _) refl
   step-as-it-is (Sign i x) m e n = own-bytes (λ i. Sign i x) i _ (signs x) m e (λ t. t) refl
   step-as-it-is (Share i x) m e n = own-bytes (λ i. Share i x) i _ (shares x) m e (λ t. t) refl

@@ -1,9 +1,9 @@
 -- With a step of peer j's the outside gets what j sends, and nothing else: for every state, and for every j, honest or not.
 use Prim.Native.Nat.{ℕ}
-use mathlib.Core.Bool.{true, false, cond}
+use mathlib.Core.Bool.{Bool, true, false, cond}
 use mathlib.Core.List.{List}
-use mathlib.Core.Option.{none}
-use mathlib.Core.Path.{_≡_, refl, sym, subst}
+use mathlib.Core.Option.{none, some}
+use mathlib.Core.Path.{_≡_, refl, sym, ap, subst}
 use mathlib.Core.Logic.{_⊎_, inl, inr}
 use lib.Dec.{eqb}
 use borrow.Author.Tests.{eqb-true}
@@ -15,9 +15,10 @@ use Rattle.rules.specs.declared.Call.the-variants.{Formed, Malformed}
 use Rattle.rules.specs.Table.{Table}
 use Rattle.rules.specs.State.{State}
 use Rattle.rules.specs.Form.{read}
-use Rattle.rules.specs.Rules.{rule, answer, next, reply, leave}
+use Rattle.rules.specs.Rules.{rule, boardBy, answer, next, reply, leave}
 use Rattle.rules.specs.Run.{Engine}
 use Rattle.rules.specs.Follows.{Follows}
+use Rattle.field_rules.specs.Message.{Sent, signature, share, hash, backing}
 use Rattle.field_runs.specs.Passed.{when, sendsOf, sentBy, sentCall}
 use Rattle.field_runs.specs.Beside.{sends}
 use Rattle.field_runs.specs.Delivered.{outside, delivered, isOf, isCallOf}
@@ -30,21 +31,26 @@ module _ (T : Table) (j : ℕ) (s : State) where
   of-j : (f : ℕ → Step) (i : ℕ) → eqb i j ≡ true → Fits (f j) → Fits (f i)
   of-j f i e g = subst (λ (z : ℕ). Fits (f z)) (sym (eqb-true i j e)) g
 
+  -- what it sends with a step of its own
+  own-sent : (m : Sent) → delivered j (some m) (outside s) ≡ delivered j (when (eqb j j) m) (outside s)
+  unfolding when
+  own-sent m = ap (λ (b : Bool). delivered j (cond b (some m) none) (outside s)) (sym (eqb-self j))
+
   fits : (st : Step) → isOf j st ≡ true → Fits st
   unfolding rule sendsOf delivered isOf when
   fits (Hand i x) e = of-j (λ i. Hand i x) i e refl
-  fits (Sign i x) e = of-j (λ i. Sign i x) i e (rw (eqb-self j))
+  fits (Sign i x) e = of-j (λ i. Sign i x) i e (own-sent (signature (s .current j) x))
   fits (Take i k p x) e = of-j (λ i. Take i k p x) i e refl
-  fits (Share i x) e = of-j (λ i. Share i x) i e (rw (eqb-self j))
+  fits (Share i x) e = of-j (λ i. Share i x) i e (own-sent (share (s .current j) x))
   fits (Close i) e = of-j (λ i. Close i) i e refl
   fits (Fetch i k p) e = of-j (λ i. Fetch i k p) i e refl
-  fits (SendHash i p) e = of-j (λ i. SendHash i p) i e (rw (eqb-self j))
+  fits (SendHash i p) e = of-j (λ i. SendHash i p) i e (own-sent (hash p (boardBy T s j p)))
   fits (Hear i a) e = of-j (λ i. Hear i a) i e refl
-  fits (Back i) e = of-j (λ i. Back i) i e (rw (eqb-self j))
-  fits (FalseSignature i p x) e = of-j (λ i. FalseSignature i p x) i e (rw (eqb-self j))
-  fits (FalseShare i p x) e = of-j (λ i. FalseShare i p x) i e (rw (eqb-self j))
-  fits (FalseHash i p B) e = of-j (λ i. FalseHash i p B) i e (rw (eqb-self j))
-  fits (FalseBacking i p B) e = of-j (λ i. FalseBacking i p B) i e (rw (eqb-self j))
+  fits (Back i) e = of-j (λ i. Back i) i e (own-sent (backing (s .toBack j) (boardBy T s j (s .toBack j))))
+  fits (FalseSignature i p x) e = of-j (λ i. FalseSignature i p x) i e (own-sent (signature p x))
+  fits (FalseShare i p x) e = of-j (λ i. FalseShare i p x) i e (own-sent (share p x))
+  fits (FalseHash i p B) e = of-j (λ i. FalseHash i p B) i e (own-sent (hash p B))
+  fits (FalseBacking i p B) e = of-j (λ i. FalseBacking i p B) i e (own-sent (backing p B))
   fits (Down i) e = of-j (λ i. Down i) i e refl
   fits (ClearHashes p) e = false-true e
   fits (Up i) e = of-j (λ i. Up i) i e refl

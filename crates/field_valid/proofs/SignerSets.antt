@@ -134,7 +134,8 @@ module _ (h : Head) (s : List ℕ) where
 
     module _ {a : Bool} (at : a ≡ zeros (rowBytes - peerBytes * m) s (knownAt + rowBytes * q + peerBytes * m)) where
       pub item-beyond : not a ≡ true → false ≡ spotsIn h s p
-      item-beyond t = sym (spots-parts ∙ rw (← at, not-true a t) (and-false (every (h .items) (signersOk (h .n) s (knownAt + rowBytes * q)))))
+      item-beyond t = sym (spots-parts ∙ rw (← at, not-true a t)
+          (and-false (every (h .items) (signersOk (h .n) s (knownAt + rowBytes * q)))))
 
       pub signers-left : {r : Bool} → not a ≡ false → r ≡ every (h .items) (signersOk (h .n) s (knownAt + rowBytes * q)) → r ≡ spotsIn h s p
       signers-left t e = e ∙ sym (spots-parts ∙ rw (← at, not-false a t) (and-true _))
@@ -147,7 +148,8 @@ module _ (h : Head) (s : List ℕ) where
         ap (λ (k : ℕ). every k (spotsIn h s)) {x = periods} {y = h .periods + (periods - h .periods)} (omega (arith, room .periods))
         ∙ every-parts (h .periods) (periods - h .periods) (spotsIn h s)
         ∙ ap (λ (b : Bool). every (h .periods) (spotsIn h s) && b)
-        (every-ext (periods - h .periods) (λ k. spotsIn h s (h .periods + k)) (λ k. zeros rowBytes s (knownAt + rowBytes * q + rowBytes * k))
+        (every-ext (periods - h .periods) (λ k. spotsIn h s (h .periods + k))
+        (λ k. zeros rowBytes s (knownAt + rowBytes * q + rowBytes * k))
         (λ k j. spots-none (h .periods + k) _ (omega arith) (omega (arith, q-is)))
         ∙ zeros-rows (periods - h .periods) rowBytes s (knownAt + rowBytes * q)
         ∙ ap (λ (k : ℕ). zeros k s (knownAt + rowBytes * q)) (omega (arith, q-is)))

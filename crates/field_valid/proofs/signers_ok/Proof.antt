@@ -26,5 +26,6 @@ returns c = search signers-all
 
 pub signers-ok-spec : {M : Type 1} → statement M
 signers-ok-spec = tie.close
-    (tie.spec Inv-loop μ-loop (λ c κs. search needs) loop-holds (λ c. search needs) (λ c. search needs) (λ c κs. search needs) (λ c. search needs)
+    (tie.spec Inv-loop μ-loop (λ c κs. search needs) loop-holds (λ c. search needs) (λ c. search needs) (λ c κs. search needs)
+    (λ c. search needs)
     (λ c. search needs) loop-again (λ c κs. search needs) returns)
