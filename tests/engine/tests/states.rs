@@ -46,17 +46,6 @@ fn place(random: &mut Random, pair: &Pair, part: usize) -> usize {
     (from + [near, near, near, anywhere][random.below(4)]).min(to - 1)
 }
 
-/// A byte that is likely to be in range, or just outside it.
-fn changed(random: &mut Random, byte: u8) -> u8 {
-    match random.below(5) {
-        0 => byte ^ 1 << random.below(8),
-        1 => byte.wrapping_add(1),
-        2 => byte.wrapping_sub(1),
-        3 => random.below(4) as u8,
-        _ => random.bits() as u8,
-    }
-}
-
 /// Changes 1 to 3 bytes, or makes an entry the copy of another; says in which
 /// part.
 fn damage(random: &mut Random, pair: &Pair, bytes: &mut [u8]) -> usize {
@@ -70,7 +59,7 @@ fn damage(random: &mut Random, pair: &Pair, bytes: &mut [u8]) -> usize {
     let part = random.below(PARTS.len());
     for _ in 0..random.between(1, 3) {
         let at = place(random, pair, part);
-        bytes[at] = changed(random, bytes[at]);
+        bytes[at] = random.changed(bytes[at]);
     }
     part
 }

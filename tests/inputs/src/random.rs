@@ -48,6 +48,17 @@ impl Random {
         self.below(100) < percent
     }
 
+    /// Another byte for this one, likely to be in range or just outside it.
+    pub fn changed(&mut self, byte: u8) -> u8 {
+        match self.below(5) {
+            0 => byte ^ 1 << self.below(8),
+            1 => byte.wrapping_add(1),
+            2 => byte.wrapping_sub(1),
+            3 => self.below(4) as u8,
+            _ => self.bits() as u8,
+        }
+    }
+
     /// One of those given, if there are any.
     pub fn pick<T>(&mut self, from: impl Iterator<Item = T>) -> Option<T> {
         let mut all: Vec<T> = from.collect();

@@ -1,7 +1,31 @@
 //! The bytes of docs/STATE.md as a struct without gaps. Peers are counted from
 //! 0 here: peer j of document 01 is number j - 1.
 
-use std::mem::size_of;
+/// A struct without gaps, in which any bytes will do, as the bytes in which it stands.
+macro_rules! over_bytes {
+    ($state:ty, $size:expr) => {
+        const _: () =
+            assert!(std::mem::size_of::<$state>() == $size && cfg!(target_endian = "little"));
+
+        impl $state {
+            /// The state that stands in so many bytes.
+            pub fn over(bytes: &mut [u8]) -> &mut $state {
+                assert_eq!(bytes.len(), $size);
+                // The length is right, alignment is 1, and any bytes will do.
+                unsafe { &mut *bytes.as_mut_ptr().cast() }
+            }
+
+            /// The same, to be read only.
+            pub fn of(bytes: &[u8]) -> &$state {
+                assert_eq!(bytes.len(), $size);
+                // As above.
+                unsafe { &*bytes.as_ptr().cast() }
+            }
+        }
+    };
+}
+
+pub(crate) use over_bytes;
 
 pub const SIZE: usize = 22_906;
 pub const MOST_ENTRIES: usize = 256;
@@ -38,23 +62,9 @@ pub struct State {
     pub bag: [Entry; MOST_ENTRIES],
 }
 
-const _: () = assert!(size_of::<State>() == SIZE && cfg!(target_endian = "little"));
+over_bytes!(State, SIZE);
 
 impl State {
-    /// The state that stands in so many bytes.
-    pub fn over(bytes: &mut [u8]) -> &mut State {
-        assert_eq!(bytes.len(), SIZE);
-        // The length is right, alignment is 1, and any bytes will do.
-        unsafe { &mut *bytes.as_mut_ptr().cast() }
-    }
-
-    /// The same, to be read only.
-    pub fn of(bytes: &[u8]) -> &State {
-        assert_eq!(bytes.len(), SIZE);
-        // As above.
-        unsafe { &*bytes.as_ptr().cast() }
-    }
-
     pub fn bytes(&self) -> &[u8; SIZE] {
         // It is so long, and has no gaps.
         unsafe { &*std::ptr::from_ref(self).cast() }

@@ -85,7 +85,7 @@ pub fn damage(random: &mut Random, table: &Table, bytes: &mut Vec<u8>) {
             let part = choice % PARTS.len();
             for _ in 0..random.between(1, 2) {
                 let at = place(random, table, part, count);
-                bytes[at] = changed(random, bytes[at]);
+                bytes[at] = random.changed(bytes[at]);
             }
         }
     }
@@ -106,15 +106,4 @@ fn place(random: &mut Random, table: &Table, part: usize, count: usize) -> usize
     };
     let anywhere = random.below(to - from);
     (from + [used, used, used, anywhere][random.below(4)]).min(to - 1)
-}
-
-/// A byte that is likely to be in range, or just outside it.
-fn changed(random: &mut Random, byte: u8) -> u8 {
-    match random.below(5) {
-        0 => byte ^ 1 << random.below(8),
-        1 => byte.wrapping_add(1),
-        2 => byte.wrapping_sub(1),
-        3 => random.below(4) as u8,
-        _ => random.bits() as u8,
-    }
 }

@@ -1,7 +1,6 @@
 //! The bytes of docs/FIELD.md as a struct without gaps.
 
-use crate::state::Sets;
-use std::mem::size_of;
+use crate::state::{over_bytes, Sets};
 
 pub const SIZE: usize = 3_717;
 pub const MOST_HEARD: usize = 256;
@@ -26,23 +25,9 @@ pub struct State {
     pub hashes: [Hash; MOST_HEARD],
 }
 
-const _: () = assert!(size_of::<State>() == SIZE && cfg!(target_endian = "little"));
+over_bytes!(State, SIZE);
 
 impl State {
-    /// The state that stands in so many bytes.
-    pub fn over(bytes: &mut [u8]) -> &mut State {
-        assert_eq!(bytes.len(), SIZE);
-        // The length is right, alignment is 1, and any bytes will do.
-        unsafe { &mut *bytes.as_mut_ptr().cast() }
-    }
-
-    /// The same, to be read only.
-    pub fn of(bytes: &[u8]) -> &State {
-        assert_eq!(bytes.len(), SIZE);
-        // As above.
-        unsafe { &*bytes.as_ptr().cast() }
-    }
-
     /// The hashes that were heard, as they came.
     pub fn heard(&self) -> &[Hash] {
         &self.hashes[..self.count as usize]
