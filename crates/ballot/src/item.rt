@@ -4,7 +4,7 @@ ghost use Rattle.ballot.specs.Item.{ballot_of, good_if, bare_audit, placed_audit
 ghost use Rattle.ballot.specs.Item.{ballot_in, reading_number, item_at, all_items};
 
 // What an item is, beside its ballot.
-#[derive(Drop)]
+#[derive(Clone, Copy)]
 pub enum Kind {
     // The number of preferences, a byte each.
     Vote(usize),
@@ -16,7 +16,7 @@ pub enum Kind {
 }
 
 // Which audits are items.
-#[derive(Drop)]
+#[derive(Clone, Copy)]
 pub enum Audits {
     // Those without a place: in tables of the first season.
     Bare,
@@ -26,14 +26,14 @@ pub enum Audits {
     Either,
 }
 
-#[derive(Drop)]
+#[derive(Clone, Copy)]
 pub struct Item {
     pub ballot: u32,
     pub kind: Kind,
 }
 
 // What an item's text says.
-#[derive(Drop)]
+#[derive(Clone, Copy)]
 pub enum Reading {
     Good(Item),
     // A length or a kind byte that no item has.

@@ -7,7 +7,7 @@
 ghost use Rattle.std.specs.Prelude.{◌≡◌, ◌<◌};
 ghost use Rattle.counters.specs.Counters.{rise_current, rise_to_back};
 
-#[derive(Drop)]
+#[derive(Clone, Copy)]
 pub struct Counters {
     pub current: u8, // p, the open period
     pub to_back: u8, // c, the next period to back

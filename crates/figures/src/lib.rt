@@ -14,7 +14,7 @@ use rules::Entry;
 use sets::whole::{posted, receipted_in};
 
 // The figures of document 02's P1: items posted, receipts, and items summed over all boards.
-#[derive(Drop)]
+#[derive(Clone, Copy)]
 pub struct Totals {
     pub posts: u32,
     pub receipts: u32,

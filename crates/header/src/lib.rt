@@ -15,16 +15,16 @@ pub mod season; // the season of a table
 pub mod weights; // the weights of its peers
 
 // Peers by their signing keys, whose signatures are on an item or whose hashes have a board: bit k - 1 is peer k.
-#[derive(Drop)]
+#[derive(Clone, Copy)]
 pub struct Signers(pub u16);
 
 // Peers by their share keys, whose receipt shares are on an item or whose backings have a board: bit k - 1 is peer k.
 // A receipt share never counts as a signature, nor the reverse.
-#[derive(Drop)]
+#[derive(Clone, Copy)]
 pub struct Sharers(pub u16);
 
 // What a step needs of a table: its header, read once.
-#[derive(Drop)]
+#[derive(Clone, Copy)]
 pub struct Head {
     pub n: u8,
     pub t: u8,

@@ -2,7 +2,7 @@
 ghost use Rattle.std.specs.Prelude.{◌≡◌};
 ghost use Rattle.header.specs.Season.{season_of, fields_at, has_weights};
 
-#[derive(Drop)]
+#[derive(Clone, Copy)]
 pub enum Season {
     // The tables of document 01, which cannot start with 0.
     First,

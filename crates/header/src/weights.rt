@@ -9,7 +9,7 @@ use crate::season::{Season, has_weights, season_of};
 use crate::{field, is_between, peers};
 
 // What tells a weight: whether it is even, and whether it is heavy, that is above 2.
-#[derive(Drop)]
+#[derive(Clone, Copy)]
 pub enum Feature {
     Even,
     Heavy,

@@ -7,7 +7,7 @@ use bag::{bag_len, entry_at};
 use rules::Entry;
 
 // What a period has: a board's items as a set, or no board.
-#[derive(Drop)]
+#[derive(Clone, Copy)]
 pub enum Published {
     Items(u64),
     Nothing,

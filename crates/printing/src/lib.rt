@@ -21,14 +21,14 @@ pub mod board; // the board of a period
 mod parts; // the pairs and the texts of a board's items
 
 // How many items, and how many bytes their texts have.
-#[derive(Drop)]
+#[derive(Clone, Copy)]
 pub struct Extent {
     pub count: u8,
     pub bytes: usize,
 }
 
 // What the writer answers.
-#[derive(Drop)]
+#[derive(Clone, Copy)]
 pub enum Written {
     // The length of the sheet.
     Sheet(usize),

@@ -19,7 +19,7 @@ pub const SHEET_MOST: usize = 2626;
 pub const PAIRS_AT: u8 = 2;
 
 // What the reader finds of an item.
-#[derive(Drop)]
+#[derive(Clone, Copy)]
 pub enum Found {
     // Where its text stands in the sheet: offset and length.
     Part(usize, usize),

@@ -9,7 +9,7 @@ pub mod place;
 pub mod range;
 
 // What a state can hold. Peers count from 1; periods, items and entries from 0.
-#[derive(Drop)]
+#[derive(Clone, Copy)]
 pub enum Fact {
     // item
     Posted(u8),
@@ -28,7 +28,7 @@ pub enum Fact {
 }
 
 // The numbers of a peer: its open period, the next period to back, and 1 for down.
-#[derive(Drop)]
+#[derive(Clone, Copy)]
 pub enum Number {
     // p, the open period
     CurrentOf(u8),
