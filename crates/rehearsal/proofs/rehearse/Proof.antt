@@ -19,7 +19,7 @@ play-requires c κs =
     let table = c.before.before in
     let judged = table.before.before in
     let passed = both_passed _ _ (sym judged.check-lent.ensures ∙ table.before.if1.false) in
-    (taken _ passed.0, table.table_in_lem.ensures, passed.1)
+    (taken _ passed.0, table.table_in.ensures, passed.1)
 
 returns-2 : tie.Need-returns-2
 returns-2 c =

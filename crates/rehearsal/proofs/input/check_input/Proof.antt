@@ -17,14 +17,14 @@ returns-2 : tie.Need-returns-2
 unfolding input_refusal
 returns-2 c =
     pass 15 1 _ (sym (le-ltb _ _ c.before.before.if1.false)) refl
-    (stop 1 _ (ap not c.before.header_ok_lem.ensures) c.if2.true)
+    (stop 1 _ (ap not c.before.header_ok.ensures) c.if2.true)
 
 returns-3 : tie.Need-returns-3
 unfolding input_refusal
 returns-3 c =
     let header = c.before.before in
     pass 15 2 _ (sym (le-ltb _ _ header.before.before.if1.false)) refl
-    (pass 1 2 _ (ap not header.before.header_ok_lem.ensures) header.if2.false
+    (pass 1 2 _ (ap not header.before.header_ok.ensures) header.if2.false
     (stop 2 _ (ap not c.before.table-there.ensures) c.if3.true))
 
 returns-4 : tie.Need-returns-4
@@ -33,9 +33,9 @@ returns-4 c =
     let pairs = c.before.before in
     let header = pairs.before.before in
     pass 15 _ _ (sym (le-ltb _ _ header.before.before.if1.false)) refl
-    (pass 1 _ _ (ap not header.before.header_ok_lem.ensures) header.if2.false
+    (pass 1 _ _ (ap not header.before.header_ok.ensures) header.if2.false
     (pass 2 _ _ (ap not pairs.before.table-there.ensures) pairs.if3.false
-    (rw c.before.table_in_lem.ensures at c.check-table.ensures)))
+    (rw c.before.table_in.ensures at c.check-table.ensures)))
 
 pub check-input-spec : {M : Type 1} → statement M
 check-input-spec =

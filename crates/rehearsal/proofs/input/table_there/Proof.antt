@@ -8,14 +8,14 @@ use Rattle.rehearsal.proofs.input.table_there.Tie as tie
 returns : tie.Need-returns
 unfolding table_there
 returns c = fails _ (simp (c.before.before.items.ensures, c.before.before.before.header-size.ensures) at
-    c.before.pairs_fit_lem.ensures) c.if1.true
+    c.before.pairs_fit.ensures) c.if1.true
 
 returns-2 : tie.Need-returns-2
 unfolding table_there
 returns-2 c =
     let fit = c.before in
     let read = fit.before.before in
-    holds _ _ (simp (read.items.ensures, read.before.header-size.ensures) at fit.before.pairs_fit_lem.ensures)
+    holds _ _ (simp (read.items.ensures, read.before.header-size.ensures) at fit.before.pairs_fit.ensures)
     fit.if1.false (simp c.table-end.ensures)
 
 pub table-there-spec : {M : Type 1} → statement M
