@@ -9,7 +9,7 @@ use lib.Bits.{bit_or, bit_xor}
 use lib.Dec.{eqb}
 use lib.ListN.{length, set, get_or-eq_default}
 use lib.Seq.{get_or-set_same, get_or-set_other}
-use borrow.Author.Tests.{eq-eqb, ne_eqb, eqb-true}
+use borrow.Author.Tests.{ne_eqb}
 use Rattle.base.specs.Bits.{bit}
 use Rattle.base.specs.Bytes.{byte_at}
 use Rattle.base.proofs.Bits.{bit-none, bit-or, bit-xor, bit-pow}

@@ -2,6 +2,7 @@
 // heard numbers of every peer follow.
 // It uses bag to read and to write entries, bits for the heard bits, and state for where they stand.
 #![tactic(auto)]
+
 ghost use Rattle.std.specs.Prelude.{◌≡◌, not, ◌+◌, ◌-◌, ◌*◌, ◌^◌, ◌<◌, ◌≤◌, length, take, set};
 ghost use Rattle.base.specs.Bits.{digit};
 ghost use Rattle.base.specs.Bytes.{byte_at};

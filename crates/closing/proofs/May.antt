@@ -11,7 +11,7 @@ use Rattle.rules.specs.Bag.{is_in, is_full, board_named}
 use Rattle.rules.specs.Rules.{rule, board_by}
 use Rattle.state.specs.declared.Fact.TheVariants.{Heard}
 use Rattle.state.specs.declared.Number.TheVariants.{CurrentOf, ToBackOf}
-use Rattle.state.specs.Layout.{periods, entries}
+use Rattle.state.specs.Layout.{entries}
 use Rattle.state.specs.Facts.{Peer, Row, Within}
 use Rattle.state.specs.Contents.{contents, Holds, with_entry, enter_on}
 use Rattle.header.specs.declared.Head.{Head}

@@ -3,6 +3,7 @@
 // validated again.
 // It uses the tests of guard and bag_guard to judge, and counters, sets, bag and state to change.
 #![tactic(auto)]
+
 ghost use Rattle.rules.specs.declared.Step.TheVariants.{Close, Fetch, SendHash, Hear, Back, Publish};
 ghost use Rattle.view.specs.Ready.{Ready};
 ghost use Rattle.view.specs.Stepped.{Stepped};

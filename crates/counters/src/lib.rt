@@ -5,6 +5,7 @@
 // counters by value.
 // It uses no other crate.
 #![tactic(auto)]
+
 ghost use Rattle.std.specs.Prelude.{◌≡◌, ◌<◌};
 ghost use Rattle.counters.specs.Counters.{rise_current, rise_to_back};
 

@@ -14,7 +14,7 @@ use Rattle.state.specs.declared.Fact.{Fact}
 use Rattle.state.specs.declared.Fact.TheVariants.{Posted, Signed, Shared, Receipted, Held, Known, Heard}
 use Rattle.state.specs.declared.Number.{Number}
 use Rattle.state.specs.declared.Number.TheVariants.{CurrentOf, ToBackOf, DownOf}
-use Rattle.state.specs.Layout.{peers, periods, items, entries, item_bytes}
+use Rattle.state.specs.Layout.{periods, items, item_bytes}
 use Rattle.state.specs.Facts.{is_peer, Within, Peer}
 use Rattle.state.specs.Numbers.{peer_of}
 use Rattle.rules.specs.Bag.{entry_at as nth}

@@ -16,7 +16,7 @@ use Rattle.bits.specs.Row.{bit_at, Bytes}
 use Rattle.bits.specs.Number.{num}
 use Rattle.bits.proofs.Number.{num-bit, num-lt}
 use Rattle.header.specs.declared.Head.{Head}
-use Rattle.state.specs.Layout.{peers, periods, items, peer_bytes, item_bytes}
+use Rattle.state.specs.Layout.{periods, items, peer_bytes, item_bytes}
 use Rattle.state.specs.Facts.{is_cell, is_spot}
 use Rattle.state.specs.Places.{cell}
 use Rattle.state.proofs.Ranges.{cell_within, within_cell, spot_within, within_spot}

@@ -3,6 +3,7 @@
 // It uses state and sets to read, base for a peer of a set, header for quorums, bits for the range of a board, and the
 // words of rules and view.
 #![tactic(auto)]
+
 pub mod backed;
 pub mod given;
 pub mod held;

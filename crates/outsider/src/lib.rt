@@ -4,6 +4,7 @@
 // validated again.
 // It uses the tests of guard and bag_guard to judge, and bag, clearing and state to change.
 #![tactic(auto)]
+
 ghost use Rattle.rules.specs.declared.Step.TheVariants.{FalseSignature, FalseShare, FalseHash, FalseBacking, Down, Up, ClearHashes};
 ghost use Rattle.view.specs.Ready.{Ready};
 ghost use Rattle.view.specs.Stepped.{Stepped};

@@ -2,5 +2,6 @@
 // It uses state for where they stand and what the bytes say, bits to read and to write,
 // and header for sets of peers and quorums.
 #![tactic(auto)]
+
 pub mod database;
 pub mod whole;

@@ -3,6 +3,7 @@
 // Above these three all but bag_valid and valid see what the bytes say, `contents`, and no byte.
 // It uses bits to read and to write, and the vocabulary of rules.
 #![tactic(auto)]
+
 pub mod facts;
 pub mod layout;
 pub mod numbers;

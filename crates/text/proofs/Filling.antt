@@ -5,7 +5,7 @@ use mathlib.Core.List.{List, [], ◌∷◌}
 use mathlib.Core.Path.{◌≡◌, refl, sym, ap, ◌∙◌}
 use lib.ListN.{length, take, drop, set, length-append}
 use lib.Seq.{sets, sets-eq, take_at, take-set-le}
-use Rattle.text.specs.Wrote.{over, place_of, Wrote}
+use Rattle.text.specs.Wrote.{over, Wrote}
 use Rattle.text.specs.Chunks.{each_from, chunk_end, Chunked}
 use Rattle.text.proofs.Writing.{none, ◌▷◌, renamed}
 use Rattle.text.proofs.Chunks.{from-none, from_more, fits_next, fits_none, fits_end}

@@ -2,6 +2,7 @@
 // them has its mark.
 // It uses pairs for the texts, and base; the ballot table and the sheet go through it.
 #![tactic(auto)]
+
 ghost use Rattle.std.specs.Prelude.{◌≡◌};
 ghost use Rattle.twins.specs.Twins.{differ, new_at, twinless};
 ghost use Rattle.twins.specs.Marks.{mark_of, mark_at, Seen};

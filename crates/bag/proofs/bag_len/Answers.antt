@@ -2,7 +2,6 @@
 use native.Mathlib.Omega.{arith}
 use mathlib.Core.Path.{sym, ◌∙◌}
 use Rattle.state.proofs.Encode.{bag_length}
-use borrow.Author.Rules.{rules}
 use Rattle.bag.proofs.bag_len.Goals as goal
 
 pub returns : goal.returns

@@ -1,6 +1,5 @@
 -- By `entered_there` and `entered_new`.
 use Rattle.bag.proofs.Entered.{entered_there, entered_new, has_room}
-use borrow.Author.Rules.{rules}
 use Rattle.bag.proofs.enter.Goals as goal
 
 pub returns-then-is_in : goal.returns-then-is_in

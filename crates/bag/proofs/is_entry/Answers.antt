@@ -1,7 +1,6 @@
 -- By `entry_is`: in a canonical state an entry's bytes are its own.
 use native.Mathlib.Omega.{arith}
 use Rattle.bag.proofs.Search.{entry_is, entry_few, entry_inside}
-use borrow.Author.Rules.{rules}
 use Rattle.bag.proofs.is_entry.Goals as goal
 
 pub overflow_mul-o : goal.overflow_mul-o

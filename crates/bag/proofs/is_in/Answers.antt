@@ -1,8 +1,6 @@
 -- No entry passed is x; so x is found here, or it is not in the bag.
-use Prim.Native.Nat.{◌≤◌, ◌-◌}
 use borrow.Author.Rules.{rules}
-use Rattle.state.specs.Contents.{contents}
-use Rattle.bag.proofs.Search.{Missed, missed_none, missed_more, found, not_found}
+use Rattle.bag.proofs.Search.{missed_none, missed_more, found, not_found}
 use Rattle.bag.proofs.is_in.Goals as goal
 
 pub loop-e-init : goal.loop-e-init

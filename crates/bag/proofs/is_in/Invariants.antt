@@ -1,7 +1,6 @@
 use Prim.Native.Nat.{◌≤◌, ◌-◌}
-use borrow.Author.Rules.{rules}
 use Rattle.state.specs.Contents.{contents}
-use Rattle.bag.proofs.Search.{Missed, missed_none, missed_more, found, not_found}
+use Rattle.bag.proofs.Search.{Missed}
 use Rattle.bag.proofs.is_in.Given as goal
 
 abbrev pub invariant-loop-e : goal.invariant-loop-e

@@ -1,6 +1,5 @@
 -- Each return is settled by the tests before it.
 use Rattle.bag.specs.Bag.{is_written}
-use borrow.Author.Rules.{rules}
 use Rattle.bag.proofs.Search.{by-fields}
 use Rattle.bag.proofs.is_written.Goals as goal
 

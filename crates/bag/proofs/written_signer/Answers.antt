@@ -5,7 +5,6 @@ use borrow.Author.Tests.{eq-eqb, ne_eqb}
 use Rattle.bits.specs.Number.{num}
 use Rattle.state.specs.Layout.{item_bytes, board_in}
 use Rattle.bag.specs.Bag.{written_signer}
-use borrow.Author.Rules.{rules}
 use Rattle.bag.proofs.written_signer.Goals as goal
 
 pub returns-then-s-o : goal.returns-then-s-o

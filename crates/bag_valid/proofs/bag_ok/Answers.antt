@@ -1,5 +1,4 @@
 -- The tests in the definition's order; entries that all are of the table are different exactly if each is new.
-use borrow.Author.Rules.{rules}
 use Rattle.bag_valid.proofs.Steps.{by-bag}
 use Rattle.bag_valid.proofs.bag_ok.Goals as goal
 

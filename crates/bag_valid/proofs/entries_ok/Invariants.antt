@@ -1,9 +1,7 @@
 use Prim.Native.Nat.{◌≤◌, ◌-◌}
 use mathlib.Core.Bool.{true}
 use mathlib.Core.Path.{◌≡◌}
-use borrow.Author.Rules.{rules}
 use Rattle.base.specs.Below.{every}
-use Rattle.base.proofs.Chain.{by_loop}
 use Rattle.bag_valid.specs.BagOk.{entry_at_ok}
 use Rattle.bag_valid.proofs.entries_ok.Given as goal
 

@@ -1,5 +1,4 @@
 -- The tests in the definition's order.
-use borrow.Author.Rules.{rules}
 use Rattle.base.proofs.Chain.{by_tests}
 use Rattle.bag_valid.specs.Numbers.{four_ok}
 use Rattle.bag_valid.proofs.four_ok.Goals as goal

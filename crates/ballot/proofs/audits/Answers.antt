@@ -1,6 +1,5 @@
 -- The season is the table's.
 use mathlib.Core.Path.{ap, ◌∙◌}
-use borrow.Author.Rules.{rules}
 use Rattle.ballot.specs.Table.{audits_in}
 use Rattle.ballot.proofs.audits.Goals as goal
 

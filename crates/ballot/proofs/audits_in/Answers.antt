@@ -1,5 +1,4 @@
 -- By the season.
-use borrow.Author.Rules.{rules}
 use Rattle.ballot.proofs.audits_in.Goals as goal
 
 pub returns-in-First : goal.returns-in-First

@@ -1,7 +1,6 @@
 -- The refusals are judged in the definition's order: the one that is given stops the row, and those before it were passed.
 use mathlib.Core.Bool.{not}
 use mathlib.Core.Path.{ap}
-use borrow.Author.Rules.{rules}
 use Rattle.base.proofs.Refusals.{stop, pass, none_left}
 use Rattle.ballot.specs.Table.{refusal}
 use Rattle.ballot.proofs.check_table.Goals as goal

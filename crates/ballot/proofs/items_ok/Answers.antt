@@ -1,5 +1,4 @@
 -- The table's pairs start where its header ends, are as many as its items, and these have the audits of its season.
-use borrow.Author.Rules.{rules}
 use Rattle.ballot.specs.Table.{items_ok}
 use Rattle.ballot.proofs.items_ok.Goals as goal
 

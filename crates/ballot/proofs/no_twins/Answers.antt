@@ -1,5 +1,4 @@
 -- The table's pairs start where its header ends, and are as many as its items.
-use borrow.Author.Rules.{rules}
 use Rattle.ballot.specs.Table.{no_twins}
 use Rattle.ballot.proofs.no_twins.Goals as goal
 

@@ -1,5 +1,4 @@
 -- The table's pairs start where its header ends, and are as many as its items.
-use borrow.Author.Rules.{rules}
 use Rattle.ballot.specs.Table.{table_pairs_ok}
 use Rattle.ballot.proofs.table_pairs_ok.Goals as goal
 

@@ -1,7 +1,6 @@
 -- By `member-none`, `member_high` and `member-bit`.
 use native.Mathlib.Omega.{arith}
 use Rattle.base.proofs.Members.{member-none, member_high, member-bit}
-use borrow.Author.Rules.{rules}
 use Rattle.base.proofs.is_member.Goals as goal
 
 pub returns-then-k-eq0 : goal.returns-then-k-eq0

@@ -1,8 +1,5 @@
 -- Byte after byte: the value is the number in the bytes passed, and is below 256 to their number.
-use Prim.Native.Nat.{◌≤◌, ◌<◌, ◌^◌, ◌-◌}
-use mathlib.Core.Path.{◌≡◌}
 use native.Mathlib.Omega.{arith}
-use Rattle.base.specs.Bytes.{number_at}
 use Rattle.base.proofs.Bytes.{number_none, number_more, number_lt, number_times, number_plus, number_end}
 use borrow.Author.Rules.{rules}
 use Rattle.base.proofs.number_at.Goals as goal

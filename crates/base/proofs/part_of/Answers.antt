@@ -4,7 +4,6 @@ use mathlib.Core.Path.{sym}
 use native.Mathlib.Nat.{add-sub_cancel_left}
 use Rattle.base.specs.Bytes.{part}
 use Rattle.base.proofs.Bytes.{part_past, part_tail}
-use borrow.Author.Rules.{rules}
 use Rattle.base.proofs.part_of.Goals as goal
 
 pub returns-then-s-start : goal.returns-then-s-start

@@ -1,12 +1,6 @@
-use mathlib.Core.Path.{◌≡◌, sym, ap}
-use mathlib.Core.List.{List}
+use mathlib.Core.Path.{◌≡◌}
 use Prim.Native.Nat.{ℕ, ◌-◌, ◌≤◌, ◌<◌}
-use native.Mathlib.Omega.{arith}
 use lib.ListN.{length, get_or}
-use lib.Seq.{ext_get_or}
-use borrow.Author.Count.{below_more}
-use borrow.Author.Rules.{rules}
-use Rattle.base.proofs.Bytes.{same_of_eq, other_of_ne}
 use Rattle.base.proofs.same.Given as goal
 
 abbrev pub invariant-loop-i : goal.invariant-loop-i

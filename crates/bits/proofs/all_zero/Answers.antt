@@ -1,12 +1,10 @@
 -- The bytes gathered so far have no bit exactly if each of them is 0.
-use Prim.Native.Nat.{◌≤◌, ◌-◌}
 use native.Mathlib.Omega.{arith}
-use mathlib.Core.Path.{◌≡◌, sym, ◌∙◌}
-use lib.Dec.{eqb}
+use mathlib.Core.Path.{sym, ◌∙◌}
 use borrow.Author.Rules.{rules}
 use Rattle.base.specs.Below.{every}
 use Rattle.base.proofs.Below.{every-all}
-use Rattle.bits.proofs.Zeros.{zero_byte, zeros_more, zeros-all}
+use Rattle.bits.proofs.Zeros.{zeros_more, zeros-all}
 use Rattle.bits.proofs.all_zero.Goals as goal
 
 pub loop-i-init : goal.loop-i-init

@@ -1,5 +1,4 @@
 -- Within the row its bit; past the end there is none.
-use borrow.Author.Rules.{rules}
 use Rattle.bits.proofs.Written.{bit_at_past}
 use Rattle.bits.proofs.bit_at.Goals as goal
 

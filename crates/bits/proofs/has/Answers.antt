@@ -4,7 +4,6 @@ use Prim.Native.Nat.{◌/◌, ◌%◌}
 use lib.ListN.{get_or}
 use Rattle.base.proofs.Bits.{bit_shr}
 use Rattle.bits.specs.Row.{bit_at}
-use borrow.Author.Rules.{rules}
 use Rattle.bits.proofs.has.Goals as goal
 
 pub returns : goal.returns

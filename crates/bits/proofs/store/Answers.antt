@@ -1,10 +1,8 @@
 -- From the lowest byte up: what is left of v is still to be stored.
-use mathlib.Core.Path.{◌≡◌, refl}
-use Prim.Native.Nat.{◌+◌, ◌≤◌, ◌-◌}
+use mathlib.Core.Path.{refl}
 use native.Mathlib.Nat.{add-zero, sub-zero}
-use lib.ListN.{length, length-set}
+use lib.ListN.{length-set}
 use borrow.Author.Rules.{rules}
-use Rattle.bits.specs.Number.{stored}
 use Rattle.bits.proofs.Loops.{store_more, store-end}
 use Rattle.bits.proofs.store.Goals as goal
 

@@ -1,10 +1,7 @@
-use mathlib.Core.Path.{◌≡◌, refl}
+use mathlib.Core.Path.{◌≡◌}
 use Prim.Native.Nat.{◌+◌, ◌≤◌, ◌-◌}
-use native.Mathlib.Nat.{add-zero, sub-zero}
-use lib.ListN.{length, length-set}
-use borrow.Author.Rules.{rules}
+use lib.ListN.{length}
 use Rattle.bits.specs.Number.{stored}
-use Rattle.bits.proofs.Loops.{store_more, store-end}
 use Rattle.bits.proofs.store.Given as goal
 
 abbrev pub invariant-loop-i : goal.invariant-loop-i

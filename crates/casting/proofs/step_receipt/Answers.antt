@@ -1,5 +1,4 @@
 -- What is refused alters nothing; what is taken has the rules' effect, by `did_receipt`.
-use borrow.Author.Rules.{rules}
 use Rattle.view.proofs.Judged.{asked}
 use Rattle.view.proofs.Whole.{refused, taken}
 use Rattle.casting.proofs.May.{may_receipt_lem}

@@ -1,5 +1,4 @@
 -- The audits are those of the table's season, and the two texts those of the items.
-use borrow.Author.Rules.{rules}
 use Rattle.clash.specs.Clash.{clash_in}
 use Rattle.clash.proofs.clash_in.Goals as goal
 

@@ -1,6 +1,5 @@
 -- A text does not clash with the same text; of two different ones the readings decide.
 use mathlib.Core.Path.{sym, ◌∙◌}
-use borrow.Author.Rules.{rules}
 use Rattle.clash.specs.Clash.{clash}
 use Rattle.clash.proofs.clashes.Goals as goal
 

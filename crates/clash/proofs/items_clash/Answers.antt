@@ -1,6 +1,5 @@
 -- Items of two ballots do not clash; of one ballot the kinds decide.
 use mathlib.Core.Path.{◌∙◌}
-use borrow.Author.Rules.{rules}
 use borrow.Author.Tests.{eq-eqb, ne_eqb}
 use Rattle.clash.proofs.items_clash.Goals as goal
 

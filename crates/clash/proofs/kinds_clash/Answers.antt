@@ -1,5 +1,4 @@
 -- A cancellation on either side decides; then a vote on either side does; then the places.
-use borrow.Author.Rules.{rules}
 use Rattle.clash.proofs.Tests.{cancelled, counts, enough, not_yet}
 use Rattle.clash.proofs.kinds_clash.Goals as goal
 

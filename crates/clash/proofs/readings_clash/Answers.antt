@@ -1,6 +1,5 @@
 -- By cases on both readings.
 use mathlib.Core.Path.{◌∙◌}
-use borrow.Author.Rules.{rules}
 use Rattle.clash.proofs.readings_clash.Goals as goal
 
 pub returns-in-Good-y : goal.returns-in-Good-y

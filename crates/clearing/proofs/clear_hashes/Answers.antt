@@ -1,5 +1,4 @@
 -- By `clear_done`.
-use borrow.Author.Rules.{rules}
 use Rattle.clearing.proofs.Whole.{to_renumber, to_move, to_cut, clear_done}
 use Rattle.clearing.proofs.clear_hashes.Goals as goal
 

@@ -1,5 +1,4 @@
 -- By `cut_done`.
-use borrow.Author.Rules.{rules}
 use Rattle.clearing.proofs.Shortening.{cut_done}
 use Rattle.clearing.proofs.cut.Goals as goal
 

@@ -1,5 +1,4 @@
 -- By `no_bit` and `a_bit`.
-use borrow.Author.Rules.{rules}
 use Rattle.clearing.proofs.Sounds.{no_bit, a_bit}
 use Rattle.clearing.proofs.heard_bit.Goals as goal
 

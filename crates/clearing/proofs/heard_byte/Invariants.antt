@@ -1,9 +1,7 @@
 use Prim.Native.Nat.{◌≤◌, ◌-◌}
 use mathlib.Core.Path.{◌≡◌}
-use borrow.Author.Rules.{rules}
 use Rattle.base.specs.Bits.{pack}
 use Rattle.clearing.specs.Moves.{heard_bits}
-use Rattle.clearing.proofs.Sounds.{no_byte, bits_none, bits_lt, bits_more, bits_all}
 use Rattle.clearing.proofs.heard_byte.Given as goal
 
 abbrev pub invariant-loop-k : goal.invariant-loop-k

@@ -1,9 +1,7 @@
 -- The entries passed gave the numbers so far.
-use Prim.Native.Nat.{◌≤◌, ◌-◌}
 use native.Mathlib.Omega.{arith}
-use Rattle.state.specs.Contents.{bag_on}
 use borrow.Author.Rules.{rules}
-use Rattle.clearing.proofs.Listing.{Listed, listed_none, listed_more, listed_all}
+use Rattle.clearing.proofs.Listing.{listed_none, listed_more, listed_all}
 use Rattle.clearing.proofs.list_kept.Goals as goal
 
 pub loop-e-init : goal.loop-e-init

@@ -1,8 +1,6 @@
 use Prim.Native.Nat.{◌≤◌, ◌-◌}
-use native.Mathlib.Omega.{arith}
 use Rattle.state.specs.Contents.{bag_on}
-use borrow.Author.Rules.{rules}
-use Rattle.clearing.proofs.Listing.{Listed, listed_none, listed_more, listed_all}
+use Rattle.clearing.proofs.Listing.{Listed}
 use Rattle.clearing.proofs.list_kept.Given as goal
 
 abbrev pub invariant-loop-e : goal.invariant-loop-e

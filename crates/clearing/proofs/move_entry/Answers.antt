@@ -1,7 +1,6 @@
 -- By `over_done`.
 use native.Mathlib.Omega.{arith}
 use Rattle.bag.proofs.Search.{entry_few, entry_inside}
-use borrow.Author.Rules.{rules}
 use Rattle.clearing.proofs.Overwriting.{over_done}
 use Rattle.clearing.proofs.move_entry.Goals as goal
 

@@ -1,7 +1,6 @@
 -- The bytes passed are written.
-use Prim.Native.Nat.{◌≤◌, ◌-◌}
 use borrow.Author.Rules.{rules}
-use Rattle.clearing.proofs.Afresh.{Renumbered, renumbered_none, renumbered_more, renumbered_all}
+use Rattle.clearing.proofs.Afresh.{renumbered_none, renumbered_more, renumbered_all}
 use Rattle.clearing.proofs.renumber.Goals as goal
 
 pub loop-b-init : goal.loop-b-init

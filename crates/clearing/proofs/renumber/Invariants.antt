@@ -1,6 +1,5 @@
 use Prim.Native.Nat.{◌≤◌, ◌-◌}
-use borrow.Author.Rules.{rules}
-use Rattle.clearing.proofs.Afresh.{Renumbered, renumbered_none, renumbered_more, renumbered_all}
+use Rattle.clearing.proofs.Afresh.{Renumbered}
 use Rattle.clearing.proofs.renumber.Given as goal
 
 abbrev pub invariant-loop-b : goal.invariant-loop-b

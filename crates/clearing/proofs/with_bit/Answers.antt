@@ -2,7 +2,6 @@
 use native.Mathlib.Omega.{arith}
 use lib.Pow.{pow_mono}
 use Rattle.base.proofs.Masks.{shifted}
-use borrow.Author.Rules.{rules}
 use Rattle.clearing.proofs.with_bit.Goals as goal
 
 pub overflow_add-result : goal.overflow_add-result

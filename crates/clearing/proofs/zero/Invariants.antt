@@ -1,7 +1,5 @@
 use Prim.Native.Nat.{◌≤◌, ◌-◌}
-use borrow.Author.Rules.{rules}
 use Rattle.clearing.specs.Moves.{Zeroed}
-use Rattle.clearing.proofs.Shortening.{zeroed_none, zeroed_more, zeroed_all}
 use Rattle.clearing.proofs.zero.Given as goal
 
 abbrev pub invariant-loop-i : goal.invariant-loop-i

@@ -1,9 +1,6 @@
 -- The bytes below i are 0, by `cleared_more`.
-use Prim.Native.Nat.{◌-◌}
 use native.Mathlib.Omega.{arith}
-use lib.ListN.{length}
-use borrow.Author.Rules.{rules}
-use Rattle.engine.proofs.Zeros.{Cleared, cleared-none, cleared_more, cleared-all}
+use Rattle.engine.proofs.Zeros.{cleared-none, cleared_more, cleared-all}
 use Rattle.engine.proofs.clear.Goals as goal
 
 pub loop-i-init : goal.loop-i-init

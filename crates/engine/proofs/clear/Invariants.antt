@@ -1,8 +1,6 @@
 use Prim.Native.Nat.{◌-◌}
-use native.Mathlib.Omega.{arith}
 use lib.ListN.{length}
-use borrow.Author.Rules.{rules}
-use Rattle.engine.proofs.Zeros.{Cleared, cleared-none, cleared_more, cleared-all}
+use Rattle.engine.proofs.Zeros.{Cleared}
 use Rattle.engine.proofs.clear.Given as goal
 
 abbrev pub invariant-loop-i : goal.invariant-loop-i

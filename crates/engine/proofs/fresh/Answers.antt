@@ -1,5 +1,4 @@
 -- The first refusal of the table or of the length, or zeros.
-use borrow.Author.Rules.{rules}
 use Rattle.engine.proofs.Calls.{fresh-table-refused, fresh-length-refused, fresh_made}
 use Rattle.engine.proofs.fresh.Goals as goal
 

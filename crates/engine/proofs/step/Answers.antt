@@ -1,7 +1,5 @@
 -- The first refusal of the table or the state, or the step on both.
-use borrow.Author.Tests.{not-true, not-false}
 use Rattle.engine.proofs.Calls.{step_table_refused, room-read, prepared, step_state_refused, ready_read}
-use borrow.Author.Rules.{rules}
 use Rattle.engine.proofs.step.Goals as goal
 
 pub returns-then-refusal-ne0 : goal.returns-then-refusal-ne0
@@ -16,9 +14,8 @@ returns-then-not-state_ok c =
     c.state_ok.ensures _ c.if-not-state_ok.true
 
 pub run_step-requires : goal.run_step-requires
-run_step-requires c =
-    (
-      prepared _ c.check_table-refusal.ensures c.if-refusal-ne0.false _ c.head_of-h.ensures,
-      ready_read _ c.check_table-refusal.ensures c.if-refusal-ne0.false _ _ c.head_of-h.ensures c.state_ok.ensures
-          (λ k. (c.slice_known-1.given k).fits) c.if-not-state_ok.false,
-    )
+run_step-requires c = (
+  prepared _ c.check_table-refusal.ensures c.if-refusal-ne0.false _ c.head_of-h.ensures,
+  ready_read _ c.check_table-refusal.ensures c.if-refusal-ne0.false _ _ c.head_of-h.ensures c.state_ok.ensures
+      (λ k. (c.slice_known-1.given k).fits) c.if-not-state_ok.false,
+)

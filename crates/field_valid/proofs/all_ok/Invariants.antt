@@ -2,9 +2,7 @@ use Prim.Native.Nat.{◌≤◌, ◌-◌}
 use mathlib.Core.Bool.{true}
 use mathlib.Core.Path.{◌≡◌}
 use Rattle.base.specs.Below.{every}
-use Rattle.base.proofs.Chain.{by_loop}
 use Rattle.field_valid.specs.BoxOk.{hash_ok}
-use borrow.Author.Rules.{rules}
 use Rattle.field_valid.proofs.all_ok.Given as goal
 
 abbrev pub invariant-loop-e : goal.invariant-loop-e

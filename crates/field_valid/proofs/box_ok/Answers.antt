@@ -1,6 +1,5 @@
 use Rattle.base.proofs.Chain.{by_tests}
 use Rattle.field_valid.specs.BoxOk.{box_ok}
-use borrow.Author.Rules.{rules}
 use Rattle.field_valid.proofs.box_ok.Goals as goal
 
 pub returns-then-s-ne-SIZE : goal.returns-then-s-ne-SIZE

@@ -1,5 +1,4 @@
 use Rattle.field_valid.proofs.Asked.{row_fits, cell-read}
-use borrow.Author.Rules.{rules}
 use Rattle.field_valid.proofs.cell_ok.Goals as goal
 
 pub is_below-requires : goal.is_below-requires

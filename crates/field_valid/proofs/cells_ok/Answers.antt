@@ -1,10 +1,4 @@
-use Prim.Native.Nat.{◌≤◌, ◌-◌}
-use mathlib.Core.Bool.{true}
-use mathlib.Core.Path.{◌≡◌}
-use Rattle.base.specs.Below.{every}
 use Rattle.base.proofs.Chain.{by_loop}
-use Rattle.field_valid.specs.BoxOk.{cell_ok}
-use borrow.Author.Rules.{rules}
 use Rattle.field_valid.proofs.cells_ok.Goals as goal
 
 pub loop-p-init : goal.loop-p-init

@@ -1,5 +1,4 @@
 use Rattle.field_valid.proofs.Asked.{signer_none, signer_above, period_late, board_left}
-use borrow.Author.Rules.{rules}
 use Rattle.field_valid.proofs.hash_ok.Goals as goal
 
 pub returns-then-s-o-lt1 : goal.returns-then-s-o-lt1

@@ -1,5 +1,4 @@
 use Rattle.field_valid.proofs.Asked.{too_many, one_bad, one_twin, rest_left}
-use borrow.Author.Rules.{rules}
 use Rattle.field_valid.proofs.hashes_ok.Goals as goal
 
 pub returns-then-n-gt-ENTRIES : goal.returns-then-n-gt-ENTRIES

@@ -1,5 +1,4 @@
 use Rattle.field_valid.proofs.Asked.{open_above, next_above, flag_left}
-use borrow.Author.Rules.{rules}
 use Rattle.field_valid.proofs.numbers_ok.Goals as goal
 
 pub returns-then-s-h : goal.returns-then-s-h

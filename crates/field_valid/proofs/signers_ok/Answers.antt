@@ -1,10 +1,5 @@
 -- The sets gathered so far have only peers of the table exactly if each of them has.
-use Prim.Native.Nat.{◌≤◌, ◌-◌, ◌^◌}
-use mathlib.Core.Path.{◌≡◌}
-use lib.Dec.{ltb}
 use borrow.Author.Rules.{rules}
-use Rattle.base.specs.Below.{every}
-use Rattle.field_valid.specs.SignerSets.{signers_ok}
 use Rattle.field_valid.proofs.SignerSets.{signers-none, signers_more, signers-all}
 use Rattle.field_valid.proofs.signers_ok.Goals as goal
 

@@ -1,5 +1,4 @@
 use Rattle.field_valid.proofs.SignerSets.{period_beyond, periods_left}
-use borrow.Author.Rules.{rules}
 use Rattle.field_valid.proofs.spots_ok.Goals as goal
 
 pub returns-then-not-all_zero : goal.returns-then-not-all_zero

@@ -1,5 +1,4 @@
 -- A shift by m leaves what is below 2 ^ m: by `low_bits`.
-use borrow.Author.Rules.{rules}
 use Rattle.figures.proofs.Counted.{all_bits, low_bits, some_left}
 use Rattle.figures.proofs.below.Goals as goal
 

@@ -1,5 +1,4 @@
 -- Each figure in its place.
-use borrow.Author.Rules.{rules}
 use Rattle.view.specs.View.{state_on}
 use Rattle.figures.specs.Totals.{outside_of}
 use Rattle.figures.proofs.Counted.{in_place}

@@ -1,5 +1,4 @@
 -- The bits below m are counted by the machine.
-use borrow.Author.Rules.{rules}
 use Rattle.figures.proofs.Counted.{set_counted}
 use Rattle.figures.proofs.count_items.Goals as goal
 

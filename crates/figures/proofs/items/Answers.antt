@@ -1,13 +1,6 @@
 -- The items of the entries passed are counted.
-use Prim.Native.Nat.{◌*◌, ◌≤◌, ◌-◌}
 use native.Mathlib.Omega.{arith}
-use mathlib.Core.Path.{◌≡◌}
-use borrow.Author.Rules.{rules}
-use Rattle.base.specs.Sums.{sum}
 use Rattle.base.proofs.Sums.{sum-none, sum_more}
-use Rattle.rules.specs.Bag.{entry_at}
-use Rattle.view.specs.View.{state_on}
-use Rattle.figures.specs.Entries.{entry_items}
 use Rattle.figures.proofs.Counted.{entry_counted, bag_all}
 use Rattle.figures.proofs.items.Goals as goal
 

@@ -1,5 +1,4 @@
 -- The posted items are a set of items.
-use borrow.Author.Rules.{rules}
 use Rattle.state.specs.Sets.{posted_of}
 use Rattle.figures.proofs.Counted.{packed_counted}
 use Rattle.figures.proofs.posts.Goals as goal

@@ -1,5 +1,4 @@
 -- A board's items, and no others.
-use borrow.Author.Rules.{rules}
 use Rattle.figures.proofs.Counted.{hash_none, backing_none, board-all}
 use Rattle.figures.proofs.published_by.Goals as goal
 

@@ -1,7 +1,6 @@
 -- A row of early returns over the ops from 10 on; no other op has a step.
 use Rattle.rules.specs.Form.{later_ops}
 use Rattle.form.proofs.Ops.{by-op}
-use borrow.Author.Rules.{rules}
 use Rattle.form.proofs.read_later.Goals as goal
 
 pub returns-then-op-eq10 : goal.returns-then-op-eq10

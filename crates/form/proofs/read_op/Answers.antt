@@ -1,7 +1,6 @@
 -- A row of early returns over the ops: the first that fits gives the step; what is left goes to read_later.
 use Rattle.rules.specs.Form.{ops}
 use Rattle.form.proofs.Ops.{by-op}
-use borrow.Author.Rules.{rules}
 use Rattle.form.proofs.read_op.Goals as goal
 
 pub returns-then-op-eq1 : goal.returns-then-op-eq1

@@ -1,9 +1,7 @@
 use Prim.Native.Nat.{◌≤◌, ◌-◌}
 use mathlib.Core.Path.{◌≡◌}
-use borrow.Author.Rules.{rules}
 use Rattle.gains.specs.Gain.{count_of, adds}
 use Rattle.gains.specs.File.{calls_to}
-use Rattle.gains.proofs.Counted.{counted_none, counted_more, counted_all}
 use Rattle.gains.proofs.count_added.Given as goal
 
 abbrev pub invariant-loop-k : goal.invariant-loop-k

@@ -1,5 +1,4 @@
 -- The back is another peer's, one too many, or counted.
-use borrow.Author.Rules.{rules}
 use Rattle.gains.proofs.Counted.{no_turn, turns_over, one_turn}
 use Rattle.gains.proofs.count_turn.Goals as goal
 

@@ -1,7 +1,5 @@
 use Prim.Native.Nat.{◌≤◌, ◌-◌}
-use borrow.Author.Rules.{rules}
 use Rattle.gains.specs.File.{Turns}
-use Rattle.gains.proofs.Counted.{all_turns}
 use Rattle.gains.proofs.count_turns.Given as goal
 
 abbrev pub invariant-loop-k : goal.invariant-loop-k

@@ -1,9 +1,5 @@
 -- The numbers passed are added up.
-use Prim.Native.Nat.{◌≤◌, ◌-◌, ◌*◌}
-use mathlib.Core.Path.{◌≡◌}
 use borrow.Author.Rules.{rules}
-use Rattle.base.specs.Bytes.{byte_at}
-use Rattle.base.specs.Sums.{sum}
 use Rattle.base.proofs.Sums.{sum-none, sum_more, sum-all}
 use Rattle.gains.proofs.sum.Goals as goal
 

@@ -1,5 +1,4 @@
 -- The byte is that of the fields, which start where the season says.
-use borrow.Author.Rules.{rules}
 use Rattle.header.proofs.Seasons.{field_at}
 use Rattle.header.proofs.field.Goals as goal
 

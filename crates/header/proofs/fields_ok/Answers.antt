@@ -1,6 +1,5 @@
 -- The fields are judged in the definition's order: those before the one that fails hold.
 use mathlib.Core.Path.{refl}
-use borrow.Author.Rules.{rules}
 use Rattle.header.specs.Header.{fields_ok}
 use Rattle.base.proofs.Returns.{fails, holds}
 use mathlib.Core.Path.{ap}

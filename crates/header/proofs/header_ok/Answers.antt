@@ -1,7 +1,6 @@
 -- The length is judged first, then the number of peers, the weights, and then the fields as they were read.
 use native.Mathlib.Omega.{arith}
 use mathlib.Core.Path.{sym, ◌∙◌}
-use borrow.Author.Rules.{rules}
 use borrow.Author.Tests.{not-false}
 use Rattle.base.proofs.Bytes.{between_true}
 use Rattle.header.proofs.Fields.{header_short, peers-out, peers_in, weight_wrong, header_judged}

@@ -1,6 +1,5 @@
 -- Six bytes of fields, after what the season puts before them, and the weights.
 use native.Mathlib.Omega.{arith}
-use borrow.Author.Rules.{rules}
 use Rattle.header.proofs.Seasons.{fields-room, size_is}
 use Rattle.header.proofs.header_size.Goals as goal
 

@@ -1,9 +1,6 @@
 -- The peers are counted one after the other: among the first k are `count` honest ones.
-use Prim.Native.Nat.{◌≤◌, ◌-◌}
-use mathlib.Core.Path.{◌≡◌, sym, ◌∙◌}
+use mathlib.Core.Path.{sym, ◌∙◌}
 use native.Mathlib.Omega.{arith}
-use borrow.Author.Rules.{rules}
-use Rattle.base.specs.Weight.{weight, ones}
 use Rattle.base.proofs.Weight.{count_none, count_in_lem, count-out}
 use Rattle.header.specs.Header.{is_honest}
 use Rattle.base.proofs.Returns.{count-end}

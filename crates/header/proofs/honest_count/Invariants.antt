@@ -1,11 +1,7 @@
 use Prim.Native.Nat.{◌≤◌, ◌-◌}
-use mathlib.Core.Path.{◌≡◌, sym, ◌∙◌}
-use native.Mathlib.Omega.{arith}
-use borrow.Author.Rules.{rules}
+use mathlib.Core.Path.{◌≡◌}
 use Rattle.base.specs.Weight.{weight, ones}
-use Rattle.base.proofs.Weight.{count_none, count_in_lem, count-out}
 use Rattle.header.specs.Header.{is_honest}
-use Rattle.base.proofs.Returns.{count-end}
 use Rattle.header.proofs.honest_count.Given as goal
 
 abbrev pub invariant-loop-k : goal.invariant-loop-k

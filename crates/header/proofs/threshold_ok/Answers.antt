@@ -1,5 +1,4 @@
 -- The threshold is judged by the least one for the weight.
-use borrow.Author.Rules.{rules}
 use Rattle.header.specs.Header.{threshold_ok}
 use Rattle.header.proofs.threshold_ok.Goals as goal
 

@@ -1,7 +1,6 @@
 -- Before text 0 stand the pairs, and before text k + 1 stands text k.
 use mathlib.Core.Path.{◌∙◌}
 use native.Mathlib.Omega.{arith}
-use borrow.Author.Rules.{rules}
 use Rattle.pairs.proofs.Texts.{end-first, end_later}
 use Rattle.pairs.proofs.end_before.Goals as goal
 

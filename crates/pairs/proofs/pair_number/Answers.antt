@@ -1,5 +1,4 @@
 -- Past the end by `number_at`, and else byte by byte.
-use borrow.Author.Rules.{rules}
 use Rattle.pairs.proofs.Texts.{pair_number_lem}
 use Rattle.pairs.proofs.pair_number.Goals as goal
 

@@ -1,15 +1,8 @@
 use Prim.Native.Nat.{◌≤◌, ◌-◌}
 use mathlib.Core.Bool.{true}
 use mathlib.Core.Path.{◌≡◌}
-use native.Mathlib.Omega.{arith}
-use borrow.Author.Rules.{rules}
 use Rattle.base.specs.Below.{every}
-use Rattle.base.proofs.Below.{every-none}
 use Rattle.pairs.specs.Pairs.{starts_at_end}
-use Rattle.base.proofs.Returns.{one_fails, one_passes, all_pass}
-use Rattle.pairs.proofs.Texts.{pairs_short, pairs_whole}
-use mathlib.Core.Path.{ap}
-use mathlib.Core.Bool.{not}
 use Rattle.pairs.proofs.pairs_fit.Given as goal
 
 abbrev pub invariant-loop-k : goal.invariant-loop-k

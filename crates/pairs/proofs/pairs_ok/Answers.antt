@@ -1,5 +1,4 @@
 -- The pairs are judged first, and then the last end.
-use borrow.Author.Rules.{rules}
 use Rattle.pairs.specs.Pairs.{pairs_ok}
 use Rattle.base.proofs.Returns.{fails, holds}
 use mathlib.Core.Path.{ap}

@@ -1,5 +1,4 @@
 -- The offset and the length of the part are those of the pair.
-use borrow.Author.Rules.{rules}
 use Rattle.pairs.proofs.text.Goals as goal
 
 pub returns : goal.returns

@@ -1,7 +1,6 @@
 -- The one refusal: it is given, or passed.
 use mathlib.Core.Bool.{not}
 use mathlib.Core.Path.{ap}
-use borrow.Author.Rules.{rules}
 use Rattle.base.proofs.Refusals.{stop, pass, none_left}
 use Rattle.sheets.specs.Found.{sheet_answer}
 use Rattle.sheets.proofs.check_sheet.Goals as goal

@@ -1,5 +1,4 @@
 -- The refusals are judged in their order; else the place is the pair's.
-use borrow.Author.Rules.{rules}
 use Rattle.sheets.proofs.Finding.{no_sheet, no_item, part-found}
 use Rattle.sheets.proofs.find_item.Goals as goal
 

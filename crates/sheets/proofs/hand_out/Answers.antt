@@ -1,5 +1,4 @@
 -- The part that was found, or none.
-use borrow.Author.Rules.{rules}
 use Rattle.sheets.proofs.Finding.{handed_part, handed_none}
 use Rattle.sheets.proofs.hand_out.Goals as goal
 

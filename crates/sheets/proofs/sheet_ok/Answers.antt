@@ -1,5 +1,4 @@
 -- The tests are made in the definition's order; the count is read once.
-use borrow.Author.Rules.{rules}
 use Rattle.sheets.specs.Sheet.{sheet_ok}
 use Rattle.sheets.proofs.Judged.{by-numbers}
 use Rattle.sheets.proofs.sheet_ok.Goals as goal

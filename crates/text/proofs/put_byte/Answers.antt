@@ -1,6 +1,5 @@
 -- A byte in its place, or past the end, by `byte_in_lem` and `byte_out`.
 use Rattle.text.proofs.Writing.{byte_in_lem, byte_out}
-use borrow.Author.Rules.{rules}
 use Rattle.text.proofs.put_byte.Goals as goal
 
 pub returns-then-at-out : goal.returns-then-at-out

@@ -2,7 +2,6 @@
 use mathlib.Core.Path.{◌∙◌}
 use Rattle.text.proofs.Writing.{renamed}
 use Rattle.text.proofs.Digits.{is_decimal}
-use borrow.Author.Rules.{rules}
 use Rattle.text.proofs.put_decimal.Goals as goal
 
 pub returns : goal.returns

@@ -1,8 +1,5 @@
 -- The first i bytes of the word are written, by `word_more`.
-use Prim.Native.Nat.{◌≤◌, ◌-◌}
-use lib.ListN.{length, take}
 use borrow.Author.Rules.{rules}
-use Rattle.text.specs.Wrote.{Wrote}
 use Rattle.text.proofs.Writing.{none, word_more, word_all}
 use Rattle.text.proofs.put_word.Goals as goal
 

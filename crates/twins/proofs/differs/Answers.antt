@@ -1,5 +1,4 @@
 -- The two texts are those that the pairs mark out.
-use borrow.Author.Rules.{rules}
 use Rattle.twins.specs.Twins.{differ}
 use Rattle.twins.proofs.differs.Goals as goal
 

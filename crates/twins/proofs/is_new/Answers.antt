@@ -1,5 +1,4 @@
 -- The same text has the same mark, so a text whose mark was not seen is new.
-use borrow.Author.Rules.{rules}
 use Rattle.twins.proofs.Marked.{unseen_new}
 use Rattle.twins.proofs.is_new.Goals as goal
 

@@ -1,6 +1,5 @@
 -- The text is the one that pair k marks out.
 use mathlib.Core.Path.{ap, ◌∙◌}
-use borrow.Author.Rules.{rules}
 use Rattle.twins.specs.Marks.{mark_of, mark_at}
 use Rattle.twins.proofs.mark_at.Goals as goal
 

@@ -1,7 +1,6 @@
 -- The number is that of the first eight bytes.
 use Prim.Native.Nat.{ℕ, ◌%◌}
 use mathlib.Core.Path.{ap}
-use borrow.Author.Rules.{rules}
 use Rattle.twins.specs.Marks.{marks, mark_of}
 use Rattle.twins.proofs.mark_of.Goals as goal
 

@@ -1,12 +1,7 @@
 -- The texts before text j are compared with it one after the other: the first i differ from it.
-use Prim.Native.Nat.{◌≤◌, ◌-◌}
-use mathlib.Core.Bool.{true}
-use mathlib.Core.Path.{◌≡◌}
 use native.Mathlib.Omega.{arith}
-use borrow.Author.Rules.{rules}
-use Rattle.base.specs.Below.{every}
 use Rattle.base.proofs.Below.{every-none}
-use Rattle.twins.specs.Twins.{differ, new_at}
+use Rattle.twins.specs.Twins.{new_at}
 use Rattle.base.proofs.Returns.{one_fails, one_passes, all_pass}
 use mathlib.Core.Path.{ap}
 use mathlib.Core.Bool.{not}

@@ -1,5 +1,4 @@
 -- The tests in the definition's order.
-use borrow.Author.Rules.{rules}
 use Rattle.base.proofs.Chain.{by_tests}
 use Rattle.valid.specs.StateOk.{state_ok}
 use Rattle.bag_valid.proofs.Steps.{few_entries}

@@ -1,4 +1,3 @@
-use borrow.Author.Rules.{rules}
 use Rattle.bag_guard.proofs.boards.few_backers_of.Goals as goal
 
 pub returns : goal.returns

@@ -1,5 +1,4 @@
 -- It is the test of the board that was read.
-use borrow.Author.Rules.{rules}
 use Rattle.bag_guard.proofs.boards.no_room_for_board.Goals as goal
 
 pub returns : goal.returns

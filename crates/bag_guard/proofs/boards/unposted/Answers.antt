@@ -1,6 +1,5 @@
 -- By `unposted_items`.
 use Rattle.bag_guard.proofs.BoardItems.{unposted_items}
-use borrow.Author.Rules.{rules}
 use Rattle.bag_guard.proofs.boards.unposted.Goals as goal
 
 pub returns : goal.returns

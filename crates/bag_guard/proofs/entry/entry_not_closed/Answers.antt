@@ -2,7 +2,6 @@
 use mathlib.Core.Path.{◌∙◌, ap}
 use Rattle.rules.specs.Bag.{period_of}
 use Rattle.base.proofs.Tests.{at_most_read}
-use borrow.Author.Rules.{rules}
 use Rattle.bag_guard.proofs.entry.entry_not_closed.Goals as goal
 
 pub returns : goal.returns

@@ -1,6 +1,5 @@
 -- By `full_room` and `full_at`.
 use Rattle.bag_guard.proofs.Full.{full_room, full_at}
-use borrow.Author.Rules.{rules}
 use Rattle.bag_guard.proofs.entry.is_full.Goals as goal
 
 pub returns-then-bag_len-lt-ENTRIES : goal.returns-then-bag_len-lt-ENTRIES

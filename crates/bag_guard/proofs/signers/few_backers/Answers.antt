@@ -1,6 +1,5 @@
 -- By `backers_few`.
 use Rattle.bag_guard.proofs.Gathered.{backers_few}
-use borrow.Author.Rules.{rules}
 use Rattle.bag_guard.proofs.signers.few_backers.Goals as goal
 
 pub returns : goal.returns

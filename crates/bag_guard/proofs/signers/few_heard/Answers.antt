@@ -1,6 +1,5 @@
 -- By `heard_few`.
 use Rattle.bag_guard.proofs.Gathered.{heard_few}
-use borrow.Author.Rules.{rules}
 use Rattle.bag_guard.proofs.signers.few_heard.Goals as goal
 
 pub returns : goal.returns

@@ -1,10 +1,7 @@
 use Prim.Native.Nat.{◌≤◌, ◌-◌}
-use native.Mathlib.Omega.{arith}
 use mathlib.Core.Path.{◌≡◌}
-use borrow.Author.Rules.{rules}
 use Rattle.state.specs.Contents.{contents}
 use Rattle.bag_guard.specs.Signers.{heard_signer, gathered}
-use Rattle.bag_guard.proofs.Gathered.{gather_none, gather_more, gather_end}
 use Rattle.bag_guard.proofs.signers.heard_signers.Given as goal
 
 abbrev pub invariant-loop-e : goal.invariant-loop-e

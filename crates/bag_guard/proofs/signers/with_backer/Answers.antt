@@ -1,6 +1,5 @@
 -- By `backer_more`.
 use Rattle.bag_guard.proofs.Gathered.{backer_more}
-use borrow.Author.Rules.{rules}
 use Rattle.bag_guard.proofs.signers.with_backer.Goals as goal
 
 pub returns : goal.returns

@@ -1,6 +1,5 @@
 -- By `heard_none`, `heard_more` and `heard_not`.
 use Rattle.bag_guard.proofs.Gathered.{heard_none, heard_more, heard_not}
-use borrow.Author.Rules.{rules}
 use Rattle.bag_guard.proofs.signers.with_heard_signer.Goals as goal
 
 pub returns-then-k-eq0 : goal.returns-then-k-eq0

@@ -1,11 +1,5 @@
 -- Every entry so far is new, and its mark is seen.
-use Prim.Native.Nat.{◌≤◌, ◌-◌}
-use mathlib.Core.Bool.{true}
-use mathlib.Core.Path.{◌≡◌}
-use borrow.Author.Rules.{rules}
-use Rattle.base.specs.Below.{every}
 use Rattle.bag_valid.proofs.Apart.{by-seen}
-use Rattle.bag_valid.specs.Numbers.{Seen, new_at}
 use Rattle.bag_valid.proofs.distinct.all_new.Goals as goal
 
 pub loop-e-init : goal.loop-e-init

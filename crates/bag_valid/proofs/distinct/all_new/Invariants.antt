@@ -1,9 +1,7 @@
 use Prim.Native.Nat.{◌≤◌, ◌-◌}
 use mathlib.Core.Bool.{true}
 use mathlib.Core.Path.{◌≡◌}
-use borrow.Author.Rules.{rules}
 use Rattle.base.specs.Below.{every}
-use Rattle.bag_valid.proofs.Apart.{by-seen}
 use Rattle.bag_valid.specs.Numbers.{Seen, new_at}
 use Rattle.bag_valid.proofs.distinct.all_new.Given as goal
 

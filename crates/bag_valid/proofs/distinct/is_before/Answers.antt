@@ -1,11 +1,5 @@
 -- No entry so far is the same.
-use Prim.Native.Nat.{◌≤◌, ◌-◌}
-use mathlib.Core.Bool.{false}
-use mathlib.Core.Path.{◌≡◌}
-use borrow.Author.Rules.{rules}
-use Rattle.base.specs.Below.{any}
 use Rattle.base.proofs.Chain.{by-search}
-use Rattle.bag_valid.specs.Numbers.{same_at}
 use Rattle.bag_valid.proofs.distinct.is_before.Goals as goal
 
 pub loop-d-init : goal.loop-d-init

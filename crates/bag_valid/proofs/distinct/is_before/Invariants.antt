@@ -1,9 +1,7 @@
 use Prim.Native.Nat.{◌≤◌, ◌-◌}
 use mathlib.Core.Bool.{false}
 use mathlib.Core.Path.{◌≡◌}
-use borrow.Author.Rules.{rules}
 use Rattle.base.specs.Below.{any}
-use Rattle.base.proofs.Chain.{by-search}
 use Rattle.bag_valid.specs.Numbers.{same_at}
 use Rattle.bag_valid.proofs.distinct.is_before.Given as goal
 

@@ -1,5 +1,4 @@
 -- The same entry has the same mark, so one whose mark was not seen is new.
-use borrow.Author.Rules.{rules}
 use Rattle.bag_valid.proofs.Apart.{mark_fits, unseen_new, before_new}
 use Rattle.bag_valid.proofs.distinct.is_new.Goals as goal
 

@@ -1,6 +1,5 @@
 -- The tests in the definition's order.
 use mathlib.Core.Path.{refl}
-use borrow.Author.Rules.{rules}
 use Rattle.base.proofs.Chain.{agree}
 use Rattle.bag_valid.proofs.Apart.{boards_agree, by-four}
 use Rattle.bag_valid.specs.Numbers.{same_at}

@@ -1,12 +1,7 @@
 -- The texts are tested one after the other: the first k read as items.
-use Prim.Native.Nat.{◌≤◌, ◌-◌}
-use mathlib.Core.Bool.{true}
-use mathlib.Core.Path.{◌≡◌}
 use native.Mathlib.Omega.{arith}
-use borrow.Author.Rules.{rules}
-use Rattle.base.specs.Below.{every}
 use Rattle.base.proofs.Below.{every-none}
-use Rattle.ballot.specs.Item.{item_at, all_items}
+use Rattle.ballot.specs.Item.{all_items}
 use Rattle.base.proofs.Returns.{one_fails, one_passes, all_pass}
 use mathlib.Core.Path.{ap}
 use mathlib.Core.Bool.{not}

@@ -1,14 +1,8 @@
 use Prim.Native.Nat.{◌≤◌, ◌-◌}
 use mathlib.Core.Bool.{true}
 use mathlib.Core.Path.{◌≡◌}
-use native.Mathlib.Omega.{arith}
-use borrow.Author.Rules.{rules}
 use Rattle.base.specs.Below.{every}
-use Rattle.base.proofs.Below.{every-none}
-use Rattle.ballot.specs.Item.{item_at, all_items}
-use Rattle.base.proofs.Returns.{one_fails, one_passes, all_pass}
-use mathlib.Core.Path.{ap}
-use mathlib.Core.Bool.{not}
+use Rattle.ballot.specs.Item.{item_at}
 use Rattle.ballot.proofs.item.all_items.Given as goal
 
 abbrev pub invariant-loop-k : goal.invariant-loop-k

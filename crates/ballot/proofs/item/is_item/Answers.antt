@@ -1,5 +1,4 @@
 -- The reading is that of text k, and its number decides.
-use borrow.Author.Rules.{rules}
 use Rattle.ballot.specs.Item.{is_item, item_at}
 use Rattle.ballot.proofs.item.is_item.Goals as goal
 

@@ -1,6 +1,5 @@
 -- By which audits are items; where either kind is, by the number of bytes after the kind byte.
 use mathlib.Core.Path.{◌∙◌}
-use borrow.Author.Rules.{rules}
 use borrow.Author.Tests.{eq-eqb, ne_eqb}
 use Rattle.ballot.proofs.item.read_audit.Goals as goal
 

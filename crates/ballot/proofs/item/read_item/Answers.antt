@@ -1,6 +1,5 @@
 -- A text with no room for a ballot number and a kind byte is wrong; any other is read by these, its length and the byte
 -- after the kind byte.
-use borrow.Author.Rules.{rules}
 use Rattle.ballot.proofs.Readings.{text_short, text_long}
 use Rattle.ballot.proofs.item.read_item.Goals as goal
 

@@ -1,6 +1,5 @@
 -- The kind byte is compared with the number of each kind in turn, and then the number of bytes after it is judged.
 use mathlib.Core.Path.{◌∙◌}
-use borrow.Author.Rules.{rules}
 use borrow.Author.Tests.{eq-eqb, ne_eqb, le-leb, lt-leb}
 use Rattle.ballot.specs.Item.{read_kind}
 use Rattle.ballot.proofs.item.read_kind.Goals as goal

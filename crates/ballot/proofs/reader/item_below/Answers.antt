@@ -1,5 +1,4 @@
 -- By whether there are more than k items; the table's pairs start where its header ends.
-use borrow.Author.Rules.{rules}
 use borrow.Author.Tests.{lt-ltb, le-ltb}
 use Rattle.ballot.specs.Table.{item_below}
 use Rattle.ballot.proofs.reader.item_below.Goals as goal

@@ -1,5 +1,4 @@
 -- The text is that of the item.
-use borrow.Author.Rules.{rules}
 use Rattle.clash.specs.Clash.{ballot_at}
 use Rattle.clash.proofs.rows.ballot_at.Goals as goal
 

@@ -1,8 +1,6 @@
 -- The ballots of the first k items are made, by `one_ballot`; the rest are zeros. The pairs start where the header ends.
-use Prim.Native.Nat.{◌-◌}
 use native.Mathlib.Omega.{arith}
-use borrow.Author.Rules.{rules}
-use Rattle.clash.proofs.Made.{BallotsTo, no_ballots, one_ballot, ballot_here, ballots_made}
+use Rattle.clash.proofs.Made.{no_ballots, one_ballot, ballot_here, ballots_made}
 use Rattle.clash.proofs.rows.ballots_of.Goals as goal
 
 pub loop-k-init : goal.loop-k-init

@@ -1,7 +1,5 @@
 use Prim.Native.Nat.{◌-◌}
-use native.Mathlib.Omega.{arith}
-use borrow.Author.Rules.{rules}
-use Rattle.clash.proofs.Made.{BallotsTo, no_ballots, one_ballot, ballot_here, ballots_made}
+use Rattle.clash.proofs.Made.{BallotsTo}
 use Rattle.clash.proofs.rows.ballots_of.Given as goal
 
 abbrev pub invariant-loop-k : goal.invariant-loop-k

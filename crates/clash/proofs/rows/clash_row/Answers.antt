@@ -1,5 +1,4 @@
 -- The row, by `row_read`; or the mask.
-use borrow.Author.Rules.{rules}
 use Rattle.clash.proofs.Made.{row_read}
 use Rattle.clash.proofs.rows.clash_row.Goals as goal
 

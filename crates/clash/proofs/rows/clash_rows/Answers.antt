@@ -1,8 +1,4 @@
 -- The first i rows are made, by `filled_more`.
-use Prim.Native.Nat.{◌-◌}
-use borrow.Author.Rules.{rules}
-use Rattle.clash.specs.Clash.{clash_mask}
-use Rattle.base.specs.Tab.{FilledTo}
 use Rattle.base.proofs.Tab.{filled_more}
 use Rattle.clash.proofs.Made.{none_made, rows_made}
 use Rattle.clash.proofs.rows.clash_rows.Goals as goal

@@ -1,9 +1,6 @@
 use Prim.Native.Nat.{◌-◌}
-use borrow.Author.Rules.{rules}
 use Rattle.clash.specs.Clash.{clash_mask}
 use Rattle.base.specs.Tab.{FilledTo}
-use Rattle.base.proofs.Tab.{filled_more}
-use Rattle.clash.proofs.Made.{none_made, rows_made}
 use Rattle.clash.proofs.rows.clash_rows.Given as goal
 
 abbrev pub invariant-loop-i : goal.invariant-loop-i

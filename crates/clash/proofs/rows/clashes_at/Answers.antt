@@ -1,5 +1,4 @@
 -- An item of another ballot does not clash; of the same ballot the texts decide.
-use borrow.Author.Rules.{rules}
 use Rattle.clash.proofs.Relation.{clash-other}
 use Rattle.clash.proofs.Made.{ballot_read}
 use Rattle.clash.proofs.rows.clashes_at.Goals as goal

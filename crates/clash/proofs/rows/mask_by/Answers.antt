@@ -1,9 +1,6 @@
 -- The items are tested one after the other: the mask has the bits of the first j.
-use Prim.Native.Nat.{◌≤◌, ◌-◌}
-use mathlib.Core.Path.{◌≡◌, sym, ◌∙◌}
+use mathlib.Core.Path.{sym, ◌∙◌}
 use native.Mathlib.Omega.{arith}
-use borrow.Author.Rules.{rules}
-use Rattle.base.specs.Bits.{pack}
 use Rattle.clash.specs.Clash.{clash_in, clash_mask}
 use Rattle.base.proofs.Masks.{bits_none, bits_in, bits_out, bits_fit, bits_end}
 use Rattle.clash.proofs.rows.mask_by.Goals as goal

@@ -1,5 +1,4 @@
 -- A shift by less than 64 loses nothing.
-use borrow.Author.Rules.{rules}
 use Rattle.base.proofs.Masks.{shifted}
 use Rattle.clash.proofs.rows.worth.Goals as goal
 

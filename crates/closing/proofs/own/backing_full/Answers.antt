@@ -1,6 +1,5 @@
 -- By `own_backing`.
 use Rattle.closing.proofs.OwnBoard.{own_backing}
-use borrow.Author.Rules.{rules}
 use Rattle.closing.proofs.own.backing_full.Goals as goal
 
 pub returns : goal.returns

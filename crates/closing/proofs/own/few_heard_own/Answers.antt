@@ -2,7 +2,6 @@
 use Rattle.state.specs.Contents.{contents}
 use Rattle.view.specs.View.{no_clash, table_of, state_of}
 use Rattle.closing.proofs.OwnBoard.{own_heard}
-use borrow.Author.Rules.{rules}
 use Rattle.closing.proofs.own.few_heard_own.Goals as goal
 
 pub returns : goal.returns

@@ -1,6 +1,5 @@
 -- By `raised_to_back`.
 use Rattle.closing.proofs.Raised.{to_back_lt, raised_to_back}
-use borrow.Author.Rules.{rules}
 use Rattle.closing.proofs.raise.raise_to_back.Goals as goal
 
 pub after_back-k-requires : goal.after_back-k-requires

@@ -1,6 +1,5 @@
 -- Each arm is the step that the match found, by `of_step`; a hand, with the row of its item, by `of_hand`. A line for
 -- each arm before its call, then one for each after it.
-use borrow.Author.Rules.{rules}
 use Rattle.engine.proofs.Clashing.{of_step, of_hand}
 use Rattle.engine.proofs.advance.advance.Goals as goal
 

@@ -1,9 +1,6 @@
 use native.Mathlib.Omega.{arith}
-use Prim.Native.Nat.{◌≤◌, ◌-◌}
-use mathlib.Core.Path.{◌≡◌}
-use Rattle.base.specs.Bits.{pack}
 use Rattle.field_guard.proofs.Judged.{asked}
-use Rattle.field_guard.proofs.Boards.{on_board, board_more, board-end}
+use Rattle.field_guard.proofs.Boards.{board_more, board-end}
 use Rattle.sets.proofs.Boards.{board-none, board-lt}
 use borrow.Author.Rules.{rules}
 use Rattle.field_guard.proofs.board.board_of.Goals as goal

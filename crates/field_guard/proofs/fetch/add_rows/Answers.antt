@@ -1,8 +1,4 @@
-use Prim.Native.Nat.{◌≤◌, ◌-◌}
-use mathlib.Core.Path.{◌≡◌, refl}
-use lib.ListN.{length}
-use Rattle.field_state.specs.Holding.{box_of, Holds}
-use Rattle.field_guard.specs.Fetching.{rows_to}
+use mathlib.Core.Path.{refl}
 use Rattle.field_guard.proofs.Fetched.{rows_none, rows_more, rows_end}
 use borrow.Author.Rules.{rules}
 use Rattle.field_guard.proofs.fetch.add_rows.Goals as goal

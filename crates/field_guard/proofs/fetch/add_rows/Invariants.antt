@@ -1,10 +1,8 @@
 use Prim.Native.Nat.{◌≤◌, ◌-◌}
-use mathlib.Core.Path.{◌≡◌, refl}
+use mathlib.Core.Path.{◌≡◌}
 use lib.ListN.{length}
 use Rattle.field_state.specs.Holding.{box_of, Holds}
 use Rattle.field_guard.specs.Fetching.{rows_to}
-use Rattle.field_guard.proofs.Fetched.{rows_none, rows_more, rows_end}
-use borrow.Author.Rules.{rules}
 use Rattle.field_guard.proofs.fetch.add_rows.Given as goal
 
 abbrev pub invariant-loop-x : goal.invariant-loop-x

@@ -1,5 +1,4 @@
 use Rattle.field_guard.specs.Common.{holds_of}
-use borrow.Author.Rules.{rules}
 use Rattle.field_guard.proofs.held.holds_of.Goals as goal
 
 pub returns : goal.returns

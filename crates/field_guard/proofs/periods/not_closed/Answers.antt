@@ -1,5 +1,4 @@
 use Rattle.base.proofs.Tests.{read-tests}
-use borrow.Author.Rules.{rules}
 use Rattle.field_guard.proofs.periods.not_closed.Goals as goal
 
 pub returns : goal.returns

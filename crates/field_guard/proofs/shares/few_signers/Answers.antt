@@ -1,6 +1,5 @@
 use Rattle.field_guard.proofs.Few.{signers_few}
 use Rattle.field_guard.proofs.Judged.{asked}
-use borrow.Author.Rules.{rules}
 use Rattle.field_guard.proofs.shares.few_signers.Goals as goal
 
 pub current-requires : goal.current-requires

@@ -1,7 +1,6 @@
 -- By `heard_few`.
 use Rattle.field_guard.proofs.Judged.{asked}
 use Rattle.field_guard.proofs.HashSigners.{heard_few}
-use borrow.Author.Rules.{rules}
 use Rattle.field_guard.proofs.store.few_heard.Goals as goal
 
 pub hash_signers-requires : goal.hash_signers-requires

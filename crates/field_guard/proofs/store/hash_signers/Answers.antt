@@ -1,12 +1,8 @@
 -- By `gather_end`.
-use Prim.Native.Nat.{◌≤◌, ◌-◌}
 use native.Mathlib.Omega.{arith}
-use mathlib.Core.Path.{◌≡◌, ap, ◌∙◌}
-use borrow.Author.Rules.{rules}
-use Rattle.bag_guard.specs.Signers.{gathered}
+use mathlib.Core.Path.{ap, ◌∙◌}
 use Rattle.bag_guard.proofs.Gathered.{gather_none, gather_more, gather_end}
 use Rattle.header.specs.Quorum.{with_peer}
-use Rattle.field_guard.specs.HashSigners.{hash_signer}
 use Rattle.field_guard.proofs.store.hash_signers.Goals as goal
 
 pub loop-e-init : goal.loop-e-init

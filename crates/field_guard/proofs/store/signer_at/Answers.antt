@@ -1,5 +1,4 @@
 -- Each return is settled by the tests before it.
-use borrow.Author.Rules.{rules}
 use Rattle.field_guard.proofs.HashSigners.{other_period, other-board, same_hash}
 use Rattle.field_guard.proofs.store.signer_at.Goals as goal
 

@@ -1,5 +1,4 @@
 use Rattle.field_state.proofs.Changed.{raised_current}
-use borrow.Author.Rules.{rules}
 use Rattle.field_state.proofs.change.raise_current.Goals as goal
 
 pub returns : goal.returns

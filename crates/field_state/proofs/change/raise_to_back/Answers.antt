@@ -1,5 +1,4 @@
 use Rattle.field_state.proofs.Changed.{raised_to_back}
-use borrow.Author.Rules.{rules}
 use Rattle.field_state.proofs.change.raise_to_back.Goals as goal
 
 pub returns : goal.returns

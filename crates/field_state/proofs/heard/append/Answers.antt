@@ -1,5 +1,4 @@
 use Rattle.field_state.proofs.Hashes.{append_done}
-use borrow.Author.Rules.{rules}
 use Rattle.field_state.proofs.heard.append.Goals as goal
 
 pub returns : goal.returns

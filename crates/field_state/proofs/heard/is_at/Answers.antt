@@ -3,7 +3,6 @@ use Rattle.field_state.specs.Holding.{hash_at}
 use Rattle.field_state.specs.Hearing.{same_at}
 use Rattle.base.proofs.Chain.{differ, agree}
 use Rattle.field_state.proofs.Hashes.{read_same}
-use borrow.Author.Rules.{rules}
 use Rattle.field_state.proofs.heard.is_at.Goals as goal
 
 pub returns-then-k-s : goal.returns-then-k-s

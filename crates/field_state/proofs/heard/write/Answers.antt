@@ -2,7 +2,6 @@ use native.Mathlib.Omega.{arith}
 use mathlib.Core.Path.{◌∙◌}
 use lib.ListN.{length-set}
 use Rattle.field_state.specs.Hearing.{hash_written}
-use borrow.Author.Rules.{rules}
 use Rattle.field_state.proofs.heard.write.Goals as goal
 
 pub bounds-s-o-2 : goal.bounds-s-o-2

@@ -2,7 +2,6 @@ use native.Mathlib.Omega.{arith}
 use mathlib.Core.Path.{sym, ◌∙◌}
 use Rattle.state.proofs.Ranges.{cell_within}
 use Rattle.field_state.proofs.Cells.{cell_yes, cell_no}
-use borrow.Author.Rules.{rules}
 use Rattle.field_state.proofs.part.holds.Goals as goal
 
 pub cell_of-requires : goal.cell_of-requires

@@ -1,7 +1,6 @@
 use mathlib.Core.Path.{sym, ◌∙◌}
 use Rattle.state.proofs.Ranges.{cell_within}
 use Rattle.field_state.proofs.Cells.{signers_in_lem, signers-out}
-use borrow.Author.Rules.{rules}
 use Rattle.field_state.proofs.part.signers_of.Goals as goal
 
 pub cell_of-requires : goal.cell_of-requires

@@ -1,9 +1,7 @@
 use Prim.Native.Nat.{◌≤◌, ◌-◌}
 use mathlib.Core.Bool.{true}
 use mathlib.Core.Path.{◌≡◌}
-use borrow.Author.Rules.{rules}
 use Rattle.base.specs.Below.{every}
-use Rattle.field_valid.proofs.Apart.{by-seen}
 use Rattle.field_valid.specs.BoxOk.{new_at}
 use Rattle.field_valid.specs.Marks.{Seen}
 use Rattle.field_valid.proofs.distinct.all_new.Given as goal

@@ -2,9 +2,7 @@ use Prim.Native.Nat.{◌≤◌, ◌-◌}
 use mathlib.Core.Bool.{false}
 use mathlib.Core.Path.{◌≡◌}
 use Rattle.base.specs.Below.{any}
-use Rattle.base.proofs.Chain.{by-search}
 use Rattle.field_state.specs.Hearing.{same_at}
-use borrow.Author.Rules.{rules}
 use Rattle.field_valid.proofs.distinct.is_before.Given as goal
 
 abbrev pub invariant-loop-d : goal.invariant-loop-d

@@ -1,5 +1,4 @@
 -- The same hash has the same mark, so one whose mark was not seen is new.
-use borrow.Author.Rules.{rules}
 use Rattle.field_valid.proofs.Apart.{mark_fits, unseen_new}
 use Rattle.field_valid.proofs.distinct.is_new.Goals as goal
 

@@ -1,9 +1,5 @@
 -- A walk along one chain, from its last step to its first.
-use Prim.Native.Nat.{◌-◌}
-use borrow.Author.Rules.{rules}
-use lib.ListN.{length}
-use Rattle.gains.specs.File.{file_call}
-use Rattle.gains.proofs.Chains.{Walk, walk_starts, walk_found, walk_falls, walk_on, walk_ends}
+use Rattle.gains.proofs.Chains.{walk_starts, walk_found, walk_falls, walk_on, walk_ends}
 use Rattle.gains.proofs.different.find.Goals as goal
 
 pub loop-at-init : goal.loop-at-init

@@ -1,8 +1,5 @@
 -- The bytes passed are mixed.
-use Prim.Native.Nat.{◌≤◌, ◌<◌, ◌-◌}
-use mathlib.Core.Path.{◌≡◌}
 use borrow.Author.Rules.{rules}
-use Rattle.gains.specs.Chains.{mix_to}
 use Rattle.gains.proofs.Chains.{mix_none, mix_more, mix_all}
 use Rattle.gains.proofs.different.mix_of.Goals as goal
 

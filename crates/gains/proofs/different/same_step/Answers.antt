@@ -1,5 +1,4 @@
 -- By `same_parts`.
-use borrow.Author.Rules.{rules}
 use Rattle.gains.proofs.Chains.{same_parts}
 use Rattle.gains.proofs.different.same_step.Goals as goal
 

@@ -1,5 +1,4 @@
 -- The step is no 16, or not found, or struck where it is found.
-use borrow.Author.Rules.{rules}
 use Rattle.gains.proofs.Blocks.{fresh-other, fresh-not-found, found-place, fresh_struck}
 use Rattle.gains.proofs.different.strike.Goals as goal
 

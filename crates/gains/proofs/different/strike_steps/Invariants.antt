@@ -1,9 +1,7 @@
 use Prim.Native.Nat.{◌≤◌, ◌-◌}
 use mathlib.Core.Path.{◌≡◌}
-use borrow.Author.Rules.{rules}
 use lib.ListN.{length}
 use Rattle.gains.specs.Chains.{Fresh}
-use Rattle.gains.proofs.Blocks.{fresh-all}
 use Rattle.gains.proofs.different.strike_steps.Given as goal
 
 abbrev pub invariant-loop-j : goal.invariant-loop-j

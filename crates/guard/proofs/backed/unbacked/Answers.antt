@@ -1,7 +1,6 @@
 -- None of the peers passed waits.
-use Prim.Native.Nat.{◌≤◌, ◌-◌}
 use borrow.Author.Rules.{rules}
-use Rattle.guard.proofs.Waiting.{NoneWaits, none_waits, one_waits_not, one_waits, nobody_waits}
+use Rattle.guard.proofs.Waiting.{none_waits, one_waits_not, one_waits, nobody_waits}
 use Rattle.guard.proofs.backed.unbacked.Goals as goal
 
 pub loop-k-init : goal.loop-k-init

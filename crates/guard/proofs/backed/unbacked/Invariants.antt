@@ -1,6 +1,5 @@
 use Prim.Native.Nat.{◌≤◌, ◌-◌}
-use borrow.Author.Rules.{rules}
-use Rattle.guard.proofs.Waiting.{NoneWaits, none_waits, one_waits_not, one_waits, nobody_waits}
+use Rattle.guard.proofs.Waiting.{NoneWaits}
 use Rattle.guard.proofs.backed.unbacked.Given as goal
 
 abbrev pub invariant-loop-k : goal.invariant-loop-k

@@ -1,5 +1,4 @@
 -- By `dishonest_waits_not` and `honest_waits`.
-use borrow.Author.Rules.{rules}
 use Rattle.guard.proofs.Waiting.{dishonest_waits_not, honest_waits}
 use Rattle.guard.proofs.backed.yet_to_back.Goals as goal
 

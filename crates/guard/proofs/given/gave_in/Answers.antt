@@ -1,6 +1,5 @@
 -- By `is_sharer`.
 use Rattle.guard.proofs.Sharer.{is_sharer}
-use borrow.Author.Rules.{rules}
 use Rattle.guard.proofs.given.gave_in.Goals as goal
 
 pub returns : goal.returns

@@ -1,12 +1,8 @@
 -- By `any_at` and `any-end`.
-use Prim.Native.Nat.{◌≤◌, ◌-◌}
-use mathlib.Core.Bool.{false}
-use mathlib.Core.Path.{◌≡◌, sym, ◌∙◌}
+use mathlib.Core.Path.{sym, ◌∙◌}
 use native.Mathlib.Omega.{arith}
 use borrow.Author.Rules.{rules}
 use Rattle.base.proofs.Below.{any_none, any_more, any_at, any-end}
-use Rattle.rules.specs.Rules.{given_before}
-use Rattle.view.specs.View.{state_on}
 use Rattle.guard.proofs.given.given_before.Goals as goal
 
 pub loop-q-init : goal.loop-q-init

@@ -1,9 +1,6 @@
 use Prim.Native.Nat.{◌≤◌, ◌-◌}
 use mathlib.Core.Bool.{false}
-use mathlib.Core.Path.{◌≡◌, sym, ◌∙◌}
-use native.Mathlib.Omega.{arith}
-use borrow.Author.Rules.{rules}
-use Rattle.base.proofs.Below.{any_none, any_more, any_at, any-end}
+use mathlib.Core.Path.{◌≡◌}
 use Rattle.rules.specs.Rules.{given_before}
 use Rattle.view.specs.View.{state_on}
 use Rattle.guard.proofs.given.given_before.Given as goal

@@ -1,13 +1,8 @@
 -- By `any_at` and `any-end`.
-use Prim.Native.Nat.{◌≤◌, ◌-◌}
-use mathlib.Core.Bool.{false}
-use mathlib.Core.Path.{◌≡◌, sym, ◌∙◌}
+use mathlib.Core.Path.{sym, ◌∙◌}
 use native.Mathlib.Omega.{arith}
 use borrow.Author.Rules.{rules}
-use Rattle.base.specs.Below.{any}
 use Rattle.base.proofs.Below.{any_none, any_more, any_at, any-end}
-use Rattle.state.specs.Contents.{contents}
-use Rattle.guard.specs.Common.{holds_of}
 use Rattle.guard.proofs.held.ever_holds.Goals as goal
 
 pub loop-q-init : goal.loop-q-init

@@ -1,10 +1,7 @@
 use Prim.Native.Nat.{◌≤◌, ◌-◌}
 use mathlib.Core.Bool.{false}
-use mathlib.Core.Path.{◌≡◌, sym, ◌∙◌}
-use native.Mathlib.Omega.{arith}
-use borrow.Author.Rules.{rules}
+use mathlib.Core.Path.{◌≡◌}
 use Rattle.base.specs.Below.{any}
-use Rattle.base.proofs.Below.{any_none, any_more, any_at, any-end}
 use Rattle.state.specs.Contents.{contents}
 use Rattle.guard.specs.Common.{holds_of}
 use Rattle.guard.proofs.held.ever_holds.Given as goal

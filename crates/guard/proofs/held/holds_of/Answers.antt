@@ -1,5 +1,4 @@
 use Rattle.guard.specs.Common.{holds_of}
-use borrow.Author.Rules.{rules}
 use Rattle.guard.proofs.held.holds_of.Goals as goal
 
 pub returns : goal.returns

@@ -1,4 +1,3 @@
-use borrow.Author.Rules.{rules}
 use Rattle.guard.proofs.items.not_held.Goals as goal
 
 pub returns : goal.returns

@@ -1,6 +1,5 @@
 -- By `sharers_few`.
 use Rattle.guard.proofs.Few.{sharers_few}
-use borrow.Author.Rules.{rules}
 use Rattle.guard.proofs.quorum.few_sharers.Goals as goal
 
 pub returns : goal.returns

@@ -1,6 +1,5 @@
 -- By `signers_few`.
 use Rattle.guard.proofs.Few.{signers_few}
-use borrow.Author.Rules.{rules}
 use Rattle.guard.proofs.quorum.few_signers.Goals as goal
 
 pub returns : goal.returns

@@ -1,5 +1,4 @@
 -- The weight is compared as the definition does; where nobody weighs more than 1 it is the number of members.
-use borrow.Author.Rules.{rules}
 use Rattle.header.proofs.Reach.{reached, reached_counted}
 use Rattle.header.proofs.quorum.reaches.Goals as goal
 

@@ -2,7 +2,6 @@
 use native.Mathlib.Omega.{arith}
 use mathlib.Core.Path.{ap, ◌∙◌}
 use lib.Count as machine
-use borrow.Author.Rules.{rules}
 use Rattle.header.proofs.Reach.{weighed}
 use Rattle.header.proofs.quorum.weigh.Goals as goal
 

@@ -3,7 +3,6 @@ use Prim.Native.Nat.{◌-◌}
 use native.Mathlib.Omega.{arith}
 use Rattle.base.proofs.Masks.{shifted}
 use Rattle.header.proofs.Reach.{peer_none, peer_high, peer_more}
-use borrow.Author.Rules.{rules}
 use Rattle.header.proofs.quorum.with_peer.Goals as goal
 
 pub returns-then-k-eq0 : goal.returns-then-k-eq0

@@ -1,5 +1,4 @@
 -- By the season.
-use borrow.Author.Rules.{rules}
 use Rattle.header.proofs.season.has_weights.Goals as goal
 
 pub returns-in-First : goal.returns-in-First

@@ -1,5 +1,4 @@
 -- By the first byte, then by the second.
-use borrow.Author.Rules.{rules}
 use Rattle.header.proofs.Seasons.{starts_otherwise, goes_on_otherwise, zero-two, zero-three}
 use Rattle.header.proofs.season.season_of.Goals as goal
 

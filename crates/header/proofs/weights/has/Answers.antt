@@ -1,5 +1,4 @@
 -- By the feature.
-use borrow.Author.Rules.{rules}
 use Rattle.header.proofs.weights.has.Goals as goal
 
 pub returns-in-Even : goal.returns-in-Even

@@ -1,11 +1,8 @@
 -- The peers are looked at one after the other: the set has those of the first k that have the feature.
-use Prim.Native.Nat.{◌+◌, ◌≤◌, ◌-◌}
-use mathlib.Core.Path.{◌≡◌, sym, ap, ◌∙◌}
+use mathlib.Core.Path.{sym, ap, ◌∙◌}
 use native.Mathlib.Omega.{arith}
-use borrow.Author.Rules.{rules}
-use Rattle.base.specs.Bits.{pack}
 use Rattle.base.proofs.Masks.{bits_none, bits_out, bits_end}
-use Rattle.header.specs.Header.{weight_in, has, peers_with}
+use Rattle.header.specs.Header.{has, peers_with}
 use Rattle.header.proofs.Reach.{next_peer}
 use Rattle.header.proofs.weights.peers_with.Goals as goal
 

@@ -1,11 +1,7 @@
 use Prim.Native.Nat.{◌+◌, ◌≤◌, ◌-◌}
-use mathlib.Core.Path.{◌≡◌, sym, ap, ◌∙◌}
-use native.Mathlib.Omega.{arith}
-use borrow.Author.Rules.{rules}
+use mathlib.Core.Path.{◌≡◌}
 use Rattle.base.specs.Bits.{pack}
-use Rattle.base.proofs.Masks.{bits_none, bits_out, bits_end}
-use Rattle.header.specs.Header.{weight_in, has, peers_with}
-use Rattle.header.proofs.Reach.{next_peer}
+use Rattle.header.specs.Header.{weight_in, has}
 use Rattle.header.proofs.weights.peers_with.Given as goal
 
 abbrev pub invariant-loop-k : goal.invariant-loop-k

@@ -1,10 +1,6 @@
 -- The weights are added one after the other: the first k peers weigh `total`. Where there are none the peers are counted.
-use Prim.Native.Nat.{◌≤◌, ◌-◌}
-use mathlib.Core.Path.{◌≡◌, sym, ◌∙◌}
+use mathlib.Core.Path.{sym, ◌∙◌}
 use native.Mathlib.Omega.{arith}
-use borrow.Author.Rules.{rules}
-use Rattle.base.specs.Weight.{weight, all}
-use Rattle.header.specs.Header.{weight_in}
 use Rattle.header.proofs.Weighing.{total_counted, total_none, total_more, total_end, total_fits}
 use Rattle.header.proofs.weights.total.Goals as goal
 

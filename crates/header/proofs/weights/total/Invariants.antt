@@ -1,10 +1,7 @@
 use Prim.Native.Nat.{◌≤◌, ◌-◌}
-use mathlib.Core.Path.{◌≡◌, sym, ◌∙◌}
-use native.Mathlib.Omega.{arith}
-use borrow.Author.Rules.{rules}
+use mathlib.Core.Path.{◌≡◌}
 use Rattle.base.specs.Weight.{weight, all}
 use Rattle.header.specs.Header.{weight_in}
-use Rattle.header.proofs.Weighing.{total_counted, total_none, total_more, total_end, total_fits}
 use Rattle.header.proofs.weights.total.Given as goal
 
 abbrev pub invariant-loop-k : goal.invariant-loop-k

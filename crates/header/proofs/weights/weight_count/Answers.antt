@@ -1,5 +1,4 @@
 -- By the season, and by the number of peers.
-use borrow.Author.Rules.{rules}
 use Rattle.header.proofs.Seasons.{count_none, count_few, count_many}
 use mathlib.Core.Path.{ap}
 use mathlib.Core.Bool.{not}

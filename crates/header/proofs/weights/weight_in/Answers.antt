@@ -1,5 +1,4 @@
 -- A peer that has a weight, and one that has none.
-use borrow.Author.Rules.{rules}
 use Rattle.header.proofs.Weighing.{weight-out, weight_here, place_fits}
 use Rattle.header.proofs.weights.weight_in.Goals as goal
 

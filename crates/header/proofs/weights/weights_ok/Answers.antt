@@ -1,10 +1,7 @@
 -- The weights are tested one after the other: the first i are in range.
-use Prim.Native.Nat.{ℕ, ◌+◌, ◌≤◌, ◌-◌}
-use mathlib.Core.Bool.{true}
-use mathlib.Core.Path.{◌≡◌, ap, ◌∙◌}
+use Prim.Native.Nat.{ℕ, ◌+◌}
+use mathlib.Core.Path.{ap, ◌∙◌}
 use native.Mathlib.Omega.{arith}
-use borrow.Author.Rules.{rules}
-use Rattle.base.specs.Below.{every}
 use Rattle.base.specs.Bytes.{between}
 use Rattle.base.proofs.Below.{every-none}
 use Rattle.base.proofs.Returns.{one_fails, one_passes, all_pass}

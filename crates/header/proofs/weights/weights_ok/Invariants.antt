@@ -1,14 +1,8 @@
-use Prim.Native.Nat.{ℕ, ◌+◌, ◌≤◌, ◌-◌}
+use Prim.Native.Nat.{◌+◌, ◌≤◌, ◌-◌}
 use mathlib.Core.Bool.{true}
-use mathlib.Core.Path.{◌≡◌, ap, ◌∙◌}
-use native.Mathlib.Omega.{arith}
-use borrow.Author.Rules.{rules}
+use mathlib.Core.Path.{◌≡◌}
 use Rattle.base.specs.Below.{every}
-use Rattle.base.specs.Bytes.{between}
-use Rattle.base.proofs.Below.{every-none}
-use Rattle.base.proofs.Returns.{one_fails, one_passes, all_pass}
-use Rattle.header.specs.Header.{weight_ok, weights_ok}
-use mathlib.Core.Bool.{not}
+use Rattle.header.specs.Header.{weight_ok}
 use Rattle.header.proofs.weights.weights_ok.Given as goal
 
 abbrev pub invariant-loop-i : goal.invariant-loop-i

@@ -1,7 +1,6 @@
 -- The item where the board has it.
 use Rattle.text.proofs.Writing.{kept, left_out}
 use Rattle.report.specs.Lines.{board_item}
-use borrow.Author.Rules.{rules}
 use Rattle.report.proofs.lines.put_item.Goals as goal
 
 pub returns-then-has_bit : goal.returns-then-has_bit

@@ -1,9 +1,6 @@
 -- The items passed are written.
-use Prim.Native.Nat.{◌≤◌, ◌-◌}
 use borrow.Author.Rules.{rules}
-use Rattle.text.specs.Wrote.{Wrote, each}
 use Rattle.text.proofs.Writing.{each_none, each_more, each_all}
-use Rattle.report.specs.Lines.{board_item}
 use Rattle.report.proofs.lines.put_items.Goals as goal
 
 pub loop-x-init : goal.loop-x-init

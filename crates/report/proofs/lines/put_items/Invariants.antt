@@ -1,7 +1,5 @@
 use Prim.Native.Nat.{◌≤◌, ◌-◌}
-use borrow.Author.Rules.{rules}
 use Rattle.text.specs.Wrote.{Wrote, each}
-use Rattle.text.proofs.Writing.{each_none, each_more, each_all}
 use Rattle.report.specs.Lines.{board_item}
 use Rattle.report.proofs.lines.put_items.Given as goal
 

@@ -1,7 +1,6 @@
 -- The parts of the line, one after the other.
 use Rattle.text.proofs.Writing.{◌▷◌}
 use Rattle.report.specs.Lines.{receipt_line}
-use borrow.Author.Rules.{rules}
 use Rattle.report.proofs.lines.put_receipt.Goals as goal
 
 pub returns : goal.returns

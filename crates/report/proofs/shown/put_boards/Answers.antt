@@ -1,10 +1,6 @@
 -- The entries passed are written.
-use Prim.Native.Nat.{◌≤◌, ◌-◌}
 use borrow.Author.Rules.{rules}
-use Rattle.state.specs.Contents.{contents}
-use Rattle.text.specs.Wrote.{Wrote, each}
 use Rattle.text.proofs.Writing.{each_none, each_more, each_all}
-use Rattle.report.specs.State.{bag_line}
 use Rattle.report.proofs.Part.{bag_read}
 use Rattle.report.proofs.shown.put_boards.Goals as goal
 

@@ -1,10 +1,7 @@
 use Prim.Native.Nat.{◌≤◌, ◌-◌}
-use borrow.Author.Rules.{rules}
 use Rattle.state.specs.Contents.{contents}
 use Rattle.text.specs.Wrote.{Wrote, each}
-use Rattle.text.proofs.Writing.{each_none, each_more, each_all}
 use Rattle.report.specs.State.{bag_line}
-use Rattle.report.proofs.Part.{bag_read}
 use Rattle.report.proofs.shown.put_boards.Given as goal
 
 abbrev pub invariant-loop-e : goal.invariant-loop-e

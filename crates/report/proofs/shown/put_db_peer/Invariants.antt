@@ -1,10 +1,7 @@
 use Prim.Native.Nat.{◌+◌, ◌≤◌, ◌-◌}
-use borrow.Author.Rules.{rules}
 use Rattle.state.specs.Contents.{contents}
 use Rattle.text.specs.Wrote.{Wrote, each}
-use Rattle.text.proofs.Writing.{each_none, each_more, each_all}
-use Rattle.report.specs.State.{db_peer, db_period}
-use Rattle.report.proofs.Rows.{period_shown}
+use Rattle.report.specs.State.{db_period}
 use Rattle.report.proofs.shown.put_db_peer.Given as goal
 
 abbrev pub invariant-loop-p : goal.invariant-loop-p

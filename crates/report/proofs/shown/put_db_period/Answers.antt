@@ -1,7 +1,5 @@
 -- The items passed are written.
-use Prim.Native.Nat.{◌≤◌, ◌-◌}
 use borrow.Author.Rules.{rules}
-use Rattle.text.specs.Wrote.{Wrote, each}
 use Rattle.text.proofs.Writing.{each_none, each_more, each_all}
 use Rattle.report.specs.Rows.{row_item, row_lines}
 use Rattle.report.proofs.shown.put_db_period.Goals as goal

@@ -1,10 +1,7 @@
 -- The peers passed are written.
-use Prim.Native.Nat.{◌≤◌, ◌-◌}
 use borrow.Author.Rules.{rules}
-use Rattle.state.specs.Contents.{contents}
-use Rattle.text.specs.Wrote.{Wrote, each}
 use Rattle.text.proofs.Writing.{each_none, each_more, each_all}
-use Rattle.report.specs.State.{db_lines, db_peer}
+use Rattle.report.specs.State.{db_lines}
 use Rattle.report.proofs.shown.put_dbs.Goals as goal
 
 pub loop-k-init : goal.loop-k-init

@@ -1,6 +1,5 @@
 -- The entry is the one that the match found.
 use Rattle.report.proofs.Part.{hash_hidden, backing_hidden, board-shown}
-use borrow.Author.Rules.{rules}
 use Rattle.report.proofs.shown.put_entry.Goals as goal
 
 pub returns-in-Hash : goal.returns-in-Hash

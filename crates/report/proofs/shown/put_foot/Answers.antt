@@ -1,7 +1,6 @@
 -- The totals, and then the end.
 use Rattle.text.proofs.Writing.{◌▷◌}
 use Rattle.report.specs.State.{foot}
-use borrow.Author.Rules.{rules}
 use Rattle.report.proofs.shown.put_foot.Goals as goal
 
 pub returns : goal.returns

@@ -1,7 +1,6 @@
 -- A line where there is a receipt.
 use Rattle.text.proofs.Writing.{kept, left_out}
 use Rattle.report.specs.State.{receipt_item}
-use borrow.Author.Rules.{rules}
 use Rattle.report.proofs.shown.put_receipt_item.Goals as goal
 
 pub returns-then-is_there : goal.returns-then-is_there

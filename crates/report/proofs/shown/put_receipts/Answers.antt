@@ -1,10 +1,7 @@
 -- The periods passed are written.
-use Prim.Native.Nat.{◌≤◌, ◌-◌}
 use borrow.Author.Rules.{rules}
-use Rattle.state.specs.Contents.{contents}
-use Rattle.text.specs.Wrote.{Wrote, each}
 use Rattle.text.proofs.Writing.{each_none, each_more, each_all}
-use Rattle.report.specs.State.{receipt_lines, receipt_period}
+use Rattle.report.specs.State.{receipt_lines}
 use Rattle.report.proofs.shown.put_receipts.Goals as goal
 
 pub loop-p-init : goal.loop-p-init

@@ -2,7 +2,6 @@
 use mathlib.Core.Path.{ap}
 use Rattle.text.proofs.Writing.{◌▷◌, renamed}
 use Rattle.report.specs.State.{shown_lines, foot, state_lines}
-use borrow.Author.Rules.{rules}
 use Rattle.report.proofs.shown.put_state.Goals as goal
 
 pub returns : goal.returns

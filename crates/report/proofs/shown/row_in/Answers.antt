@@ -1,6 +1,5 @@
 -- There is room for 8 periods.
 use Rattle.report.proofs.Rows.{row_inside, row-outside}
-use borrow.Author.Rules.{rules}
 use Rattle.report.proofs.shown.row_in.Goals as goal
 
 pub returns-then-i-lt-PERIODS : goal.returns-then-i-lt-PERIODS

@@ -1,12 +1,10 @@
 use Prim.Native.Nat.{◌≤◌, ◌-◌}
-use mathlib.Core.Path.{◌≡◌, refl}
+use mathlib.Core.Path.{◌≡◌}
 use lib.ListN.{length}
-use borrow.Author.Rules.{rules}
 use Rattle.state.specs.Layout.{items}
 use Rattle.state.specs.Contents.{contents, Holds, adding}
 use Rattle.state.specs.Sets.{known_to}
 use Rattle.sets.specs.Database.{on_row}
-use Rattle.sets.proofs.Rows.{row-none, row_more, row-end}
 use Rattle.sets.proofs.database.add_row.Given as goal
 
 abbrev pub invariant-loop-i : goal.invariant-loop-i

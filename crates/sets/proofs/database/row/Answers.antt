@@ -1,12 +1,8 @@
 -- The sets of the items passed are filled in.
-use Prim.Native.Nat.{◌≤◌, ◌-◌}
 use native.Mathlib.Omega.{arith}
 use mathlib.Core.Path.{refl}
 use borrow.Author.Rules.{rules}
 use Rattle.state.specs.Layout.{items}
-use Rattle.base.specs.Tab.{FilledTo}
-use Rattle.state.specs.Contents.{contents}
-use Rattle.state.specs.Sets.{signers_of}
 use Rattle.sets.specs.Database.{row_of}
 use Rattle.base.proofs.Tab.{filled_none, filled_more, filled_all}
 use Rattle.sets.proofs.database.row.Goals as goal

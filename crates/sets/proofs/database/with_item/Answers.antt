@@ -2,7 +2,6 @@
 use native.Mathlib.Omega.{arith}
 use lib.Pow.{pow_mono}
 use Rattle.base.proofs.Masks.{shifted}
-use borrow.Author.Rules.{rules}
 use Rattle.sets.proofs.database.with_item.Goals as goal
 
 pub overflow_add-result : goal.overflow_add-result

@@ -2,7 +2,6 @@
 use mathlib.Core.Path.{sym, ◌∙◌}
 use Rattle.state.proofs.Ranges.{row_within}
 use Rattle.sets.proofs.Words.{held_in, held_out}
-use borrow.Author.Rules.{rules}
 use Rattle.sets.proofs.whole.held_in.Goals as goal
 
 pub row_of-requires : goal.row_of-requires

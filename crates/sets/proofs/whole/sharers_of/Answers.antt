@@ -2,7 +2,6 @@
 use mathlib.Core.Path.{sym, ◌∙◌}
 use Rattle.state.proofs.Ranges.{cell_within}
 use Rattle.sets.proofs.Words.{sharers_in, sharers_out}
-use borrow.Author.Rules.{rules}
 use Rattle.sets.proofs.whole.sharers_of.Goals as goal
 
 pub cell_of-requires : goal.cell_of-requires

@@ -2,7 +2,6 @@
 use mathlib.Core.Path.{sym, ◌∙◌}
 use Rattle.state.proofs.Ranges.{spot_within}
 use Rattle.sets.proofs.Words.{signers_in_lem, signers-out}
-use borrow.Author.Rules.{rules}
 use Rattle.sets.proofs.whole.signers_of.Goals as goal
 
 pub spot_of-requires : goal.spot_of-requires

@@ -2,7 +2,6 @@
 use Rattle.state.proofs.Ranges.{within_range}
 use Rattle.state.proofs.Frame.{place_inside}
 use Rattle.state.proofs.Holds.{put_done}
-use borrow.Author.Rules.{rules}
 use Rattle.state.proofs.facts.add_fact.Goals as goal
 
 pub put-requires : goal.put-requires

@@ -4,7 +4,6 @@ use mathlib.Core.Path.{sym, ◌∙◌}
 use Rattle.state.specs.declared.Fact.TheVariants.{Heard}
 use Rattle.state.proofs.Ranges.{range_within}
 use Rattle.state.proofs.Frame.{there_yes, there_no}
-use borrow.Author.Rules.{rules}
 use Rattle.state.proofs.facts.is_heard_by.Goals as goal
 
 pub heard_by-requires : goal.heard_by-requires

@@ -3,7 +3,6 @@ use native.Mathlib.Omega.{arith}
 use mathlib.Core.Path.{sym, ◌∙◌}
 use Rattle.state.proofs.Ranges.{spot_within}
 use Rattle.state.proofs.Frame.{there_yes, there_no}
-use borrow.Author.Rules.{rules}
 use Rattle.state.proofs.facts.is_held.Goals as goal
 
 pub spot_of-requires : goal.spot_of-requires

@@ -1,7 +1,6 @@
 -- By `there_yes` and `there_no`: the bit at the place of `Posted i`.
 use native.Mathlib.Omega.{arith}
 use Rattle.state.proofs.Frame.{there_yes, there_no}
-use borrow.Author.Rules.{rules}
 use Rattle.state.proofs.facts.is_posted.Goals as goal
 
 pub returns-then-is_item : goal.returns-then-is_item

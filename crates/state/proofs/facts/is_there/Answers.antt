@@ -2,7 +2,6 @@
 use mathlib.Core.Path.{sym, ◌∙◌}
 use Rattle.state.proofs.Ranges.{range_within}
 use Rattle.state.proofs.Frame.{there_inside, there_yes, there_no}
-use borrow.Author.Rules.{rules}
 use Rattle.state.proofs.facts.is_there.Goals as goal
 
 pub place_of-requires : goal.place_of-requires

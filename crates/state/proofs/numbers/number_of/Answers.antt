@@ -2,7 +2,6 @@
 use mathlib.Core.Path.{sym, ◌∙◌}
 use Rattle.state.proofs.Ranges.{peer_within}
 use Rattle.state.proofs.Frame.{no_number}
-use borrow.Author.Rules.{rules}
 use Rattle.state.proofs.numbers.number_of.Goals as goal
 
 pub value_of-requires : goal.value_of-requires

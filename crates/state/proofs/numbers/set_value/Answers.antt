@@ -2,7 +2,6 @@
 use native.Mathlib.Omega.{arith}
 use Rattle.state.proofs.Slots.{slot_within}
 use Rattle.state.proofs.Holds.{store_done}
-use borrow.Author.Rules.{rules}
 use Rattle.state.proofs.numbers.set_value.Goals as goal
 
 pub bounds-s-at : goal.bounds-s-at

@@ -6,7 +6,6 @@ use Rattle.state.specs.Numbers.{peer_of}
 use Rattle.state.proofs.Ranges.{within_peer}
 use Rattle.state.proofs.Slots.{slot_within}
 use Rattle.state.proofs.Frame.{number_byte}
-use borrow.Author.Rules.{rules}
 use Rattle.state.proofs.numbers.value_of.Goals as goal
 
 pub bounds-s-slot_of : goal.bounds-s-slot_of

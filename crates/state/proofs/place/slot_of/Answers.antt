@@ -1,7 +1,6 @@
 -- Each arm is the clause of `slot` for its number.
 use native.Mathlib.Omega.{arith}
 use mathlib.Core.Path.{ap}
-use borrow.Author.Rules.{rules}
 use Rattle.state.specs.Numbers.{peer_of}
 use Rattle.state.proofs.Arms.{slot-found}
 use Rattle.state.proofs.place.slot_of.Goals as goal

@@ -1,6 +1,5 @@
 -- Each arm is the clause of `inRange` for its kind.
 use Rattle.state.proofs.Arms.{range_found}
-use borrow.Author.Rules.{rules}
 use Rattle.state.proofs.range.in_range.Goals as goal
 
 pub returns-in-Posted : goal.returns-in-Posted

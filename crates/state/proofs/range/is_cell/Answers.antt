@@ -2,7 +2,6 @@
 use native.Mathlib.Omega.{arith}
 use borrow.Author.Tests.{lt-ltb, le-ltb}
 use Rattle.state.specs.Layout.{periods}
-use borrow.Author.Rules.{rules}
 use Rattle.state.proofs.range.is_cell.Goals as goal
 
 pub returns-then-wide-lt-PERIODS : goal.returns-then-wide-lt-PERIODS

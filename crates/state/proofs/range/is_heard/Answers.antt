@@ -3,7 +3,6 @@ use Prim.Native.Nat.{ℕ}
 use mathlib.Core.Path.{ap}
 use lib.Dec.{ltb}
 use Rattle.state.specs.Layout.{entries}
-use borrow.Author.Rules.{rules}
 use Rattle.state.proofs.range.is_heard.Goals as goal
 
 pub returns-then-is_peer : goal.returns-then-is_peer

@@ -3,7 +3,6 @@ use Prim.Native.Nat.{ℕ}
 use mathlib.Core.Path.{ap}
 use lib.Dec.{ltb}
 use Rattle.state.specs.Layout.{items}
-use borrow.Author.Rules.{rules}
 use Rattle.state.proofs.range.is_item.Goals as goal
 
 pub returns : goal.returns

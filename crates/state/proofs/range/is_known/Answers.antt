@@ -1,5 +1,4 @@
 -- The peer whose database it is is tested first, as in `inRange`.
-use borrow.Author.Rules.{rules}
 use Rattle.state.proofs.range.is_known.Goals as goal
 
 pub returns-then-is_peer : goal.returns-then-is_peer

@@ -1,7 +1,6 @@
 -- Two comparisons, as `is_peer` has them.
 use native.Mathlib.Omega.{arith}
 use borrow.Author.Tests.{le-leb, lt-leb}
-use borrow.Author.Rules.{rules}
 use Rattle.state.proofs.range.is_peer.Goals as goal
 
 pub returns-then-k-lt1 : goal.returns-then-k-lt1

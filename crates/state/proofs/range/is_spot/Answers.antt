@@ -1,5 +1,4 @@
 -- The peer is tested first, as in `is_spot`.
-use borrow.Author.Rules.{rules}
 use Rattle.state.proofs.range.is_spot.Goals as goal
 
 pub returns-then-is_peer : goal.returns-then-is_peer

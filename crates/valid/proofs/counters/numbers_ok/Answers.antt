@@ -1,6 +1,5 @@
 -- Each return by the tests before it.
 use native.Mathlib.Omega.{arith}
-use borrow.Author.Rules.{rules}
 use Rattle.valid.proofs.Fields.{not_there, open_above, next_above, flag_left}
 use Rattle.valid.proofs.counters.numbers_ok.Goals as goal
 

@@ -1,12 +1,5 @@
 -- Every peer so far passes.
-use Prim.Native.Nat.{◌≤◌, ◌-◌}
-use mathlib.Core.Bool.{true}
-use mathlib.Core.Path.{◌≡◌}
-use borrow.Author.Rules.{rules}
-use Rattle.base.specs.Below.{every}
-use Rattle.state.specs.Layout.{peers}
 use Rattle.valid.proofs.Fields.{by-each-peer}
-use Rattle.valid.proofs.Fields.{peer_at_ok}
 use Rattle.valid.proofs.counters.peers_ok.Goals as goal
 
 pub loop-i-init : goal.loop-i-init

@@ -1,8 +1,7 @@
 -- The bits so far are the hashes among the entries so far.
-use Prim.Native.Nat.{◌≤◌, ◌-◌}
 use native.Mathlib.Omega.{arith}
 use borrow.Author.Rules.{rules}
-use Rattle.valid.proofs.HashSet.{HashesTo, hashes_none, hashes_more, hashes_all}
+use Rattle.valid.proofs.HashSet.{hashes_none, hashes_more, hashes_all}
 use Rattle.valid.proofs.hashes.hashes.Goals as goal
 
 pub loop-e-init : goal.loop-e-init

@@ -1,7 +1,5 @@
 use Prim.Native.Nat.{◌≤◌, ◌-◌}
-use native.Mathlib.Omega.{arith}
-use borrow.Author.Rules.{rules}
-use Rattle.valid.proofs.HashSet.{HashesTo, hashes_none, hashes_more, hashes_all}
+use Rattle.valid.proofs.HashSet.{HashesTo}
 use Rattle.valid.proofs.hashes.hashes.Given as goal
 
 abbrev pub invariant-loop-e : goal.invariant-loop-e

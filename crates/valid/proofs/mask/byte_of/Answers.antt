@@ -1,7 +1,6 @@
 -- The byte stands in a row that is used, or past those.
 use native.Mathlib.Omega.{arith}
 use mathlib.Core.Path.{◌∙◌}
-use borrow.Author.Rules.{rules}
 use Rattle.valid.proofs.Masks.{row_byte_lem, past_rows}
 use Rattle.valid.proofs.mask.byte_of.Goals as goal
 

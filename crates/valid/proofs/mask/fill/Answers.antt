@@ -1,10 +1,6 @@
 -- The bytes so far are those of the mask.
-use Prim.Native.Nat.{◌≤◌, ◌-◌}
 use native.Mathlib.Omega.{arith}
-use lib.ListN.{length}
 use borrow.Author.Rules.{rules}
-use Rattle.base.specs.Tab.{FilledTo}
-use Rattle.valid.specs.Rows.{first, in_rows, byte_of}
 use Rattle.valid.proofs.Masks.{mask-none, mask_more, mask-all}
 use Rattle.valid.proofs.mask.fill.Goals as goal
 

@@ -2,7 +2,6 @@
 use Prim.Native.Nat.{◌%◌}
 use native.Mathlib.Omega.{arith}
 use lib.Pow.{pow_pos}
-use borrow.Author.Rules.{rules}
 use Rattle.base.proofs.Masks.{shifted}
 use Rattle.valid.proofs.Masks.{first_full, first_past, first_last}
 use Rattle.valid.proofs.mask.first_byte.Goals as goal

@@ -1,7 +1,6 @@
 -- One row alone.
 use native.Mathlib.Omega.{arith}
 use mathlib.Core.Path.{◌∙◌}
-use borrow.Author.Rules.{rules}
 use Rattle.state.specs.Layout.{item_bytes}
 use Rattle.valid.proofs.Masks.{mask-row}
 use Rattle.valid.proofs.mask.of_items.Goals as goal

@@ -1,14 +1,8 @@
 -- Every row so far has only bits that it may have.
-use Prim.Native.Nat.{◌≤◌, ◌-◌}
 use native.Mathlib.Omega.{arith}
-use mathlib.Core.Bool.{true}
-use mathlib.Core.Path.{◌≡◌}
 use lib.ListN.{length}
-use borrow.Author.Rules.{rules}
-use Rattle.base.specs.Below.{every}
-use Rattle.bits.specs.Row.{bit_at}
 use Rattle.valid.proofs.Only.{by-each-row}
-use Rattle.valid.proofs.Only.{row_in, row_fits}
+use Rattle.valid.proofs.Only.{row_fits}
 use Rattle.valid.proofs.rows.each_row.Goals as goal
 
 pub loop-i-init : goal.loop-i-init

@@ -1,13 +1,10 @@
 use Prim.Native.Nat.{◌≤◌, ◌-◌}
-use native.Mathlib.Omega.{arith}
 use mathlib.Core.Bool.{true}
 use mathlib.Core.Path.{◌≡◌}
 use lib.ListN.{length}
-use borrow.Author.Rules.{rules}
 use Rattle.base.specs.Below.{every}
 use Rattle.bits.specs.Row.{bit_at}
-use Rattle.valid.proofs.Only.{by-each-row}
-use Rattle.valid.proofs.Only.{row_in, row_fits}
+use Rattle.valid.proofs.Only.{row_in}
 use Rattle.valid.proofs.rows.each_row.Given as goal
 
 abbrev pub invariant-loop-i : goal.invariant-loop-i

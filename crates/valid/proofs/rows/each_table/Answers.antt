@@ -1,16 +1,11 @@
 -- Every peer's rows so far have only bits that they may have.
-use Prim.Native.Nat.{◌≤◌, ◌-◌, ◌*◌}
+use Prim.Native.Nat.{◌*◌}
 use native.Mathlib.Omega.{arith}
-use mathlib.Core.Bool.{true}
-use mathlib.Core.Path.{◌≡◌}
 use lib.ListN.{length}
 use borrow.Author.Rules.{rules}
-use Rattle.base.specs.Below.{every}
-use Rattle.bits.specs.Row.{bit_at}
-use Rattle.state.specs.Layout.{peers, periods}
+use Rattle.state.specs.Layout.{periods}
 use Rattle.valid.proofs.Only.{by-each-row}
-use Rattle.valid.specs.Rows.{in_rows}
-use Rattle.valid.proofs.Only.{row_in, row_fits}
+use Rattle.valid.proofs.Only.{row_fits}
 use Rattle.valid.proofs.rows.each_table.Goals as goal
 
 pub loop-j-init : goal.loop-j-init

@@ -1,14 +1,10 @@
 -- What was gathered is 0 exactly if no byte so far has a bit beside the mask's.
-use Prim.Native.Nat.{◌≤◌, ◌-◌}
 use native.Mathlib.Omega.{arith}
-use mathlib.Core.Path.{◌≡◌, sym, ◌∙◌}
-use lib.Dec.{eqb}
-use lib.ListN.{length}
+use mathlib.Core.Path.{sym, ◌∙◌}
 use borrow.Author.Rules.{rules}
 use Rattle.base.specs.Below.{every}
 use Rattle.base.proofs.Below.{every-all}
-use Rattle.bits.specs.Row.{bit_at}
-use Rattle.valid.proofs.Only.{byte_in, only_more, only_bytes}
+use Rattle.valid.proofs.Only.{only_more, only_bytes}
 use Rattle.std.proofs.Math.Facts.{Fits-lt-pow}
 use Rattle.valid.proofs.rows.only.Goals as goal
 

@@ -1,14 +1,10 @@
 use Prim.Native.Nat.{◌≤◌, ◌-◌}
-use native.Mathlib.Omega.{arith}
-use mathlib.Core.Path.{◌≡◌, sym, ◌∙◌}
+use mathlib.Core.Path.{◌≡◌}
 use lib.Dec.{eqb}
 use lib.ListN.{length}
-use borrow.Author.Rules.{rules}
 use Rattle.base.specs.Below.{every}
-use Rattle.base.proofs.Below.{every-all}
 use Rattle.bits.specs.Row.{bit_at}
-use Rattle.valid.proofs.Only.{byte_in, only_more, only_bytes}
-use Rattle.std.proofs.Math.Facts.{Fits-lt-pow}
+use Rattle.valid.proofs.Only.{byte_in}
 use Rattle.valid.proofs.rows.only.Given as goal
 
 abbrev pub invariant-loop-i : goal.invariant-loop-i

@@ -1,5 +1,4 @@
 -- A row of the table is tested with the mask, another for zeros.
-use borrow.Author.Rules.{rules}
 use Rattle.valid.proofs.Only.{only_there, only_zeros}
 use Rattle.std.proofs.Math.Facts.{Fits-lt-pow}
 use Rattle.valid.proofs.rows.row.Goals as goal

@@ -1,5 +1,4 @@
 -- A peer's rows are tested with the mask, those of another for zeros.
-use borrow.Author.Rules.{rules}
 use Rattle.valid.proofs.Only.{only_there, only_zeros}
 use Rattle.std.proofs.Math.Facts.{Fits-lt-pow}
 use Rattle.valid.proofs.rows.table.Goals as goal

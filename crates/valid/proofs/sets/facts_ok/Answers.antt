@@ -1,5 +1,4 @@
 -- The regions are all facts.
-use borrow.Author.Rules.{rules}
 use Rattle.valid.proofs.Regions.{by-all-sets}
 use Rattle.valid.proofs.sets.facts_ok.Goals as goal
 

@@ -1,5 +1,4 @@
 -- Each test is that of its region, since the masks are made of what the table has.
-use borrow.Author.Rules.{rules}
 use Rattle.valid.proofs.Regions.{by-item-sets}
 use Rattle.valid.proofs.sets.item_sets_ok.Goals as goal
 

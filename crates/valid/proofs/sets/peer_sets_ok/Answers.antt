@@ -1,5 +1,4 @@
 -- Each test is that of its region, since the mask is made of what the table has.
-use borrow.Author.Rules.{rules}
 use Rattle.valid.proofs.Regions.{by-peer-sets}
 use Rattle.valid.proofs.sets.peer_sets_ok.Goals as goal
 
