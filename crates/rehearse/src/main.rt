@@ -1,6 +1,7 @@
 // rehearse: reads a table and steps from standard input and writes the report to standard output.
 // One byte more than a rehearsal may have is read, so that a longer input shows. All that matters is in the crate
 // rehearsal.
+#![tactic(auto)]
 use rehearsal::{INPUT_MOST, REPORT_MOST};
 use state::layout::SIZE;
 

@@ -1,6 +1,7 @@
 // Runs stored rehearsals one after the other and writes their reports, which are compared with those of an independent
 // engine.
 // Standard input has their number, then for each its length and its bytes; a number has four bytes, high byte first.
+#![tactic(auto)]
 ghost use Rattle.io.specs.Counts.{IsPrefixLen};
 
 use rehearsal::{INPUT_MOST, REPORT_MOST};
