@@ -1,4 +1,4 @@
--- The first test that holds gives the answer, in the fieldRule's order: by `row`.
+-- The first test that holds gives the answer, in the field_rule's order: by `row`.
 use Rattle.field_rules.specs.Rules.{field_rule, handle_answer}
 use Rattle.field_guard.proofs.Judged.{row, asked}
 use Rattle.field_judges.proofs.judge.judge_sign.Goals as goal

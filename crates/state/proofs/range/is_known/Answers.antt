@@ -1,4 +1,4 @@
--- The peer whose database it is is tested first, as in `inRange`.
+-- The peer whose database it is is tested first, as in `in_range`.
 use borrow.Author.Rules.{rules}
 use Rattle.state.proofs.range.is_known.Goals as goal
 
