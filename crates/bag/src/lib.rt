@@ -1,5 +1,6 @@
 // The bag: its entries read, looked for and added to.
 // It uses state for where they stand and what the bytes say, bits to read and to write, and the entries of rules.
+#![tactic(auto)]
 ghost use Rattle.std.specs.Prelude.{◌≡◌, false, ◌+◌, ◌<◌, ◌≤◌, length};
 ghost use Rattle.state.specs.Layout.{entries, entry_size};
 ghost use Rattle.rules.specs.Bag.{entry_at as nth, same_entry, is_in, is_full};

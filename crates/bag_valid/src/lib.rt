@@ -1,5 +1,6 @@
 // Row 14 of the bag: how many entries it has, each of them by itself, no two the same, and nothing after the last.
 // It uses state's layout and bits to read.
+#![tactic(auto)]
 ghost use Rattle.std.specs.Prelude.{◌≡◌, ◌<◌, ◌≤◌, length};
 ghost use Rattle.base.specs.Below.{every};
 ghost use Rattle.state.specs.Layout.{items, entries, size};

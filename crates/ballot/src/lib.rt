@@ -1,6 +1,7 @@
 // The ballot table: its header, pairs and items, read from lent bytes, and the first refusal of 1 to 4 that applies.
 // An item's text is handed on as the part of the table that it is; nothing is copied, and no byte is changed.
 // It uses header and pairs to read the table, twins to compare its items, and base.
+#![tactic(auto)]
 ghost use Rattle.std.specs.Prelude.{◌≡◌};
 ghost use Rattle.ballot.specs.Table.{audits_in, audits_of, table_pairs_ok, items_ok, no_twins, refusal};
 

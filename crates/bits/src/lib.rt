@@ -1,5 +1,6 @@
 // A slice of bytes as a row of bits, and as numbers of several bytes, low byte first.
 // It uses base, for its laws of bits and to make a byte wide, and no other crate.
+#![tactic(auto)]
 ghost use Rattle.std.specs.Prelude.{◌≡◌, ◌+◌, ◌/◌, ◌^◌, ◌<◌, ◌≤◌, ltb, length};
 ghost use Rattle.base.specs.Bits.{bit};
 ghost use Rattle.bits.specs.Row.{bit_at, write_bit, put_bit, zeros};

@@ -3,6 +3,7 @@
 // validated again.
 // It uses the tests of guard to judge, and state to change. It sees no table: of clashes, only the row of the item that
 // is handed.
+#![tactic(auto)]
 ghost use Rattle.rules.specs.declared.Step.TheVariants.{Post, Hand, Sign, Take, Share, Receipt};
 ghost use Rattle.view.specs.View.{in_row};
 ghost use Rattle.view.specs.Ready.{Ready};

@@ -1,5 +1,6 @@
 // When two items clash: by their kinds, their texts and their numbers; and the rows of clashes, made once for a table.
 // It uses ballot to read items, header for their number and where their pairs start, and base.
+#![tactic(auto)]
 ghost use Rattle.std.specs.Prelude.{◌≡◌};
 ghost use Rattle.clash.specs.Clash.{is_vote, is_cancellation, other_place, places_differ, kinds_clash};
 ghost use Rattle.clash.specs.Clash.{items_clash, readings_clash, clash, clash_in};

@@ -1,7 +1,7 @@
 -- Clears change no later answer, until the run without them would have answered full: of every engine that follows the
 -- rules, from any ready store, with no premise on honesty.
 use Prim.Native.Nat.{ℕ}
-use mathlib.Core.Bool.{Bool, true, false, ◌&&◌, not, and_false}
+use mathlib.Core.Bool.{Bool, true, false, ◌&&◌, not, and-false}
 use mathlib.Core.List.{List, [], ◌∷◌, ◌++◌}
 use mathlib.Core.Path.{◌≡◌, refl, sym, ap, ◌∙◌, subst}
 use mathlib.Core.Logic.{◌⊎◌, inl, inr}
@@ -60,7 +60,7 @@ module _ (T : Table) where
           go : (x : Call) → read c ≡ x → eqb (reply T u x) 13 ≡ false → KeptCall u (rid u b h) c
           go (Formed st) q n = let K = kept T S u b h L G H st n in record
               { answers = rw (said, q, gone_said u.bag b c st q) K.answers; states = rw (said, q) K.states }
-          go Malformed q n = record { answers = rw (said, q, and_false (hears_gone u.bag b c)); states = rw (said, q) (λ o. L) }
+          go Malformed q n = record { answers = rw (said, q, and-false (hears_gone u.bag b c)); states = rw (said, q) (λ o. L) }
 
       -- a hash that the bag lacks joins its end
       joins : (st : Step) (a : Entry) → (rule T (rid u b h) st).effect ≡ with_bag_lem (rid u b h) (enter a b) → answer T (rid u b h) st ≡ 0

@@ -1,6 +1,7 @@
 // The hashes of a period removed from the bag, in place: the rest keep their order and are numbered afresh, and the
 // heard numbers of every peer follow.
 // It uses bag to read and to write entries, bits for the heard bits, and state for where they stand.
+#![tactic(auto)]
 ghost use Rattle.std.specs.Prelude.{◌≡◌, not, ◌+◌, ◌-◌, ◌*◌, ◌^◌, ◌<◌, ◌≤◌, length, take, set};
 ghost use Rattle.base.specs.Bits.{digit};
 ghost use Rattle.base.specs.Bytes.{byte_at};

@@ -4,6 +4,7 @@
 // `close` and `back` take the counters lent; `after_close` and `after_back` lend a copy to them, for those who hold the
 // counters by value.
 // It uses no other crate.
+#![tactic(auto)]
 ghost use Rattle.std.specs.Prelude.{◌≡◌, ◌<◌};
 ghost use Rattle.counters.specs.Counters.{rise_current, rise_to_back};
 

@@ -3,3 +3,4 @@
 // tables that meet demand 3's premise.
 // No function stands here. It uses the definitions and laws of rules and of the table (header, pairs, ballot, clash);
 // guarantee carries worked runs of it to the bytes.
+#![tactic(auto)]

@@ -2,6 +2,7 @@
 // re-validates nothing.
 // It uses header to read the table, ballot to judge it, valid to judge the state, clash for what clashes, form to read
 // a step, and casting, closing and outsider to judge and do it.
+#![tactic(auto)]
 ghost use Rattle.std.specs.Prelude.{◌≡◌, length, replicate};
 ghost use Rattle.view.specs.Ready.{Ready};
 ghost use Rattle.engine.specs.Engine.{Prepared, step_answer, step_bytes, fresh_answer, fresh_bytes};

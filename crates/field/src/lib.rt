@@ -1,6 +1,8 @@
 // One peer for the field: the box of one honest peer, on bytes.
 // It uses field_rules for what it is to do, field_form to do it, field_valid for row 14, ballot for the table. For C the
 // crate field_c exports these functions.
+#![tactic(auto)]
+
 ghost use Rattle.std.specs.Prelude.{◌≡◌};
 ghost use Rattle.field_state.specs.Layout.{size};
 ghost use Rattle.field.specs.Calls.{message_answer, message_leaves, own_answer, own_leaves, own_sends};

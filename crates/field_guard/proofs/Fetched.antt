@@ -2,7 +2,7 @@
 use Prim.Native.Nat.{ℕ, zero, suc, ◌+◌, ◌-◌, ◌*◌, ◌/◌, ◌^◌, ◌<◌, ◌≤◌}
 use native.Mathlib.Decide.{ℕ_discrete}
 use native.Mathlib.Omega.{arith}
-use mathlib.Core.Bool.{Bool, true, false, cond, not, ◌&&◌, ◌||◌, or_false}
+use mathlib.Core.Bool.{Bool, true, false, cond, not, ◌&&◌, ◌||◌, or-false}
 use mathlib.Core.List.{List}
 use mathlib.Core.Path.{◌≡◌, refl, sym, ap, ap₂, fun_ext, subst, ◌∙◌}
 use mathlib.Core.Logic.{◌⊎◌, inl, inr}
@@ -217,7 +217,7 @@ one_more m p n l b = λ i. record {
     step : (y k : ℕ) → Dec (y ≡ n)
         → ((eqb y n && member (number_at m (13 + 2 * n) 2) k) || (ltb y n && row y k)) ≡ (ltb y (n + 1) && row y k)
     step y k (yes e) = rw (e, eqb_self n, le-ltb n n (omega arith), lt-ltb n (n + 1) (omega arith), lt-ltb n 64 l)
-        (or_false (member (number_at m (13 + 2 * n) 2) k))
+        (or-false (member (number_at m (13 + 2 * n) 2) k))
     step y k (no d) = rw (ne_eqb y n d) (ap (λ (z : Bool). z && row y k) (iff _ _
         (λ q. let u = ltb-true y n q in lt-ltb y (n + 1) (omega arith))
         (λ q. let u = ltb-true y (n + 1) q in lt-ltb y n (omega arith))))

@@ -1,6 +1,7 @@
 // One function for each test in the field peer's lists of refusals: its promise is the very test of the list.
 // It uses field_state to read the box, header for quorums, guard for sets that meet, sets for a board's items, and
 // bag_guard's set of signers. Names and roles are tested by guard.
+#![tactic(auto)]
 
 pub mod board; // the peer's own board
 pub mod fetch; // the rows of a fetch

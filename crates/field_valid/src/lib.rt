@@ -1,5 +1,6 @@
 // Row 14: whether a lent buffer is a state of the field peer. It need not be one that messages lead to.
 // It uses field_state's layout, bits to read, and bag_valid's marks.
+#![tactic(auto)]
 ghost use Rattle.std.specs.Prelude.{◌≡◌, ◌+◌, ◌*◌, ◌^◌, ◌<◌, ◌≤◌, ltb, length};
 ghost use Rattle.base.specs.Below.{every};
 ghost use Rattle.state.specs.Layout.{periods, entries};

@@ -1,5 +1,6 @@
 // The totals: the items posted, the receipts, and the items of all boards, each counted from what a state holds.
 // No counter is kept anywhere. It uses sets and bag to read, and view for what the bytes say.
+#![tactic(auto)]
 ghost use Rattle.std.specs.Prelude.{◌≡◌, ◌≤◌};
 ghost use Rattle.base.specs.Bits.{bit, pack};
 ghost use Rattle.base.specs.Sums.{how_many};

@@ -1,5 +1,6 @@
 // A step, read from the thirteen bytes of a call; anything else is malformed. What a step is written as is in specs.
 // It uses base to read bytes, and rules for what they say.
+#![tactic(auto)]
 ghost use Rattle.std.specs.Prelude.{◌≡◌};
 ghost use Rattle.rules.specs.Form.{all_zero, formed, select, later_ops, ops, read};
 

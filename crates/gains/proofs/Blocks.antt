@@ -2,7 +2,7 @@
 use Prim.Native.Nat.{ℕ, ◌+◌, ◌-◌, ◌*◌, ◌<◌, ◌≤◌}
 use native.Mathlib.Decide.{ℕ_discrete, dec_lt}
 use native.Mathlib.Omega.{arith}
-use mathlib.Core.Bool.{Bool, true, false, ◌&&◌, ◌||◌, not, or_false, and_false, and-true}
+use mathlib.Core.Bool.{Bool, true, false, ◌&&◌, ◌||◌, not, or-false, and-false, and-true}
 use mathlib.Core.List.{List}
 use mathlib.Core.Path.{◌≡◌, sym, ap, subst, ◌∙◌}
 use mathlib.Core.Logic.{◌⊎◌, inl, inr}
@@ -72,7 +72,7 @@ module _ (s : List ℕ) (j : ℕ) (block : List ℕ) (k : ℕ) (fresh : List ℕ
           let other = same_sym (file_call block i) (file_call s j) ∙ sym (ap (λ (b : Bool). b && same) n) ∙ e in
           ap (λ (b : Bool). is_new block i && not b)
           (sym (among_more s (file_call block i) j ∙ ap (λ (b : Bool). is_among (file_call block i) (calls_to s j) || b) other
-          ∙ or_false (is_among (file_call block i) (calls_to s j))))
+          ∙ or-false (is_among (file_call block i) (calls_to s j))))
       go (inr n) =
           ap (λ (b : Bool). b && not (is_among (file_call block i) (calls_to s j))) n
           ∙ sym (ap (λ (b : Bool). b && not (is_among (file_call block i) (calls_to s (j + 1)))) n)
@@ -83,7 +83,7 @@ module _ (s : List ℕ) (j : ℕ) (block : List ℕ) (k : ℕ) (fresh : List ℕ
   struck i e =
       let same = same_of_eq (file_call block i) (file_call s j) (sym (like_same block (file_call s j) i e)) in
       let among = among_more s (file_call block i) j ∙ or_r (is_among (file_call block i) (calls_to s j)) _ same in
-      ap (λ (b : Bool). is_new block i && not b) among ∙ and_false (is_new block i)
+      ap (λ (b : Bool). is_new block i && not b) among ∙ and-false (is_new block i)
 
   none_struck : ((i : ℕ) → i < k → new_like block (file_call s j) i ≡ false) → Fresh s (j + 1) block k fresh
   none_struck n = record { long = F.long; each = λ i l. F.each i l ∙ ap digit (stays i (n i l)) }

@@ -1,7 +1,7 @@
 -- Laws of counting calls, all and different ones.
 use Prim.Native.Nat.{ℕ, ◌+◌, ◌≤◌}
 use native.Mathlib.Omega.{arith}
-use mathlib.Core.Bool.{Bool, true, false, ◌&&◌, ◌||◌, not, or_false, or-true, or_assoc, and_false}
+use mathlib.Core.Bool.{Bool, true, false, ◌&&◌, ◌||◌, not, or-false, or-true, or_assoc, and-false}
 use mathlib.Core.List.{List, [], ◌∷◌, ◌++◌}
 use mathlib.Core.Path.{◌≡◌, refl, sym, ◌∙◌, subst}
 use mathlib.Core.Logic.{◌⊎◌, inl, inr}
@@ -22,7 +22,7 @@ count-one f (d ∷ calls) c = omega (arith, count-one f calls c)
 
 pub among_one : (a : List ℕ) (calls : List (List ℕ)) (c : List ℕ) → is_among a (calls ++ (c ∷ [])) ≡ (is_among a calls || same_bytes a c)
 unfolding is_among
-among_one a [] c = or_false (same_bytes a c)
+among_one a [] c = or-false (same_bytes a c)
 among_one a (d ∷ calls) c = rw (among_one a calls c) (sym (or_assoc (same_bytes a d) (is_among a calls) (same_bytes a c)))
 
 pub different-one : (f : List ℕ → Bool) (calls : List (List ℕ)) (c : List ℕ)
@@ -38,8 +38,8 @@ different-one f (d ∷ calls) c = rw (among_one d calls c) (go (either (same_byt
     go (inl e) r =
         subst (λ (z : List ℕ). digit (f z && not (is_among z calls || same_bytes z c)) + different_of f (calls ++ (c ∷ [])) ≡ digit
         (f z && not (is_among z calls)) + different_of f calls + digit (f c && not (same_bytes c z || is_among c calls)))
-        (sym (eq_of_same d c e)) (rw (same_self c, or-true (is_among c calls), and_false (f c)) (omega (arith, r)))
-    go (inr e) r = rw (e, same_sym c d ∙ e, or_false (is_among d calls)) (omega (arith, r))
+        (sym (eq_of_same d c e)) (rw (same_self c, or-true (is_among c calls), and-false (f c)) (omega (arith, r)))
+    go (inr e) r = rw (e, same_sym c d ∙ e, or-false (is_among d calls)) (omega (arith, r))
 
 pub count_few : (f : List ℕ → Bool) (calls : List (List ℕ)) → count_of f calls ≤ length calls
 unfolding count_of

@@ -1,7 +1,7 @@
 -- Laws of the last number that passes a test.
 use Prim.Native.Nat.{ℕ, zero, suc, ◌≤◌}
 use native.Mathlib.Omega.{arith}
-use mathlib.Core.Bool.{Bool, true, false, ◌||◌, not, or-true, or_false}
+use mathlib.Core.Bool.{Bool, true, false, ◌||◌, not, or-true, or-false}
 use mathlib.Core.Path.{◌≡◌, refl, sym, ap, ◌∙◌}
 use mathlib.Core.Logic.{◌⊎◌, inl, inr}
 use lib.Dec.{eqb}
@@ -51,7 +51,7 @@ module _ (f : ℕ → Bool) where
     where
       go : (f k ≡ true) ⊎ (f k ≡ false) → eqb (last_where f k) 0 ≡ not (any k f) → eqb (last_where f (suc k)) 0 ≡ not (any k f || f k)
       go (inl e) r = rw (last_hit k e, e, or-true (any k f)) (ne_eqb (suc k) 0 (λ z. omega arith))
-      go (inr e) r = rw (last_miss k e, e, or_false (any k f)) r
+      go (inr e) r = rw (last_miss k e, e, or-false (any k f)) r
 
 -- the last that passes f is not past the last that passes g, where f asks for more than g
 pub last_within : (f g : ℕ → Bool) → ((i : ℕ) → f i ≡ true → g i ≡ true) → (k : ℕ) → last_where f k ≡ last_where f (last_where g k)

@@ -3,7 +3,7 @@ use Prim.Native.Nat.{ℕ, zero, suc, ◌+◌, ◌-◌, ◌*◌, ◌<◌, ◌≤�
 use native.Mathlib.Nat.{add-zero}
 use native.Mathlib.Numerals.{add-one}
 use native.Mathlib.Omega.{arith}
-use mathlib.Core.Bool.{Bool, true, false, ◌&&◌, ◌||◌, not, or_false, or_assoc}
+use mathlib.Core.Bool.{Bool, true, false, ◌&&◌, ◌||◌, not, or-false, or_assoc}
 use mathlib.Core.List.{List, [], ◌∷◌}
 use mathlib.Core.Path.{◌≡◌, refl, sym, ap, ap₂, subst, ◌∙◌}
 use lib.ListN.{length, take, drop, length-drop}
@@ -57,7 +57,7 @@ module _ (s block : List ℕ) (b size : ℕ) (q : block ≡ part s (13 * b) (13 
   -- the steps before step i of the block are those before the block and those of the block before i
   among_in : (c : List ℕ) (i : ℕ) → i ≤ size → is_among c (calls_to s (b + i)) ≡ (is_among c (calls_to s b) || is_among c (calls_to block i))
   unfolding calls_to tab is_among
-  among_in c zero l = ap (λ (k : ℕ). is_among c (calls_to s k)) (add-zero b) ∙ sym (or_false (is_among c (calls_to s b)))
+  among_in c zero l = ap (λ (k : ℕ). is_among c (calls_to s k)) (add-zero b) ∙ sym (or-false (is_among c (calls_to s b)))
   among_in c (suc i) l =
       ap (λ (k : ℕ). is_among c (calls_to s k)) {x = b + suc i} {y = b + i + 1} (omega arith) ∙ among_more s c (b + i)
       ∙ ap₂ ◌||◌ (among_in c i (omega arith)) (ap (same_bytes c) (sym (call_in i l)))

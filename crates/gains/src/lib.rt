@@ -1,5 +1,6 @@
 // How many entries a file of steps can add to the bag, from its bytes alone (document 02, P11).
 // It uses base to read.
+#![tactic(auto)]
 ghost use Rattle.std.specs.Prelude.{◌≡◌, ◌+◌, ◌*◌, ◌/◌, ◌<◌, ◌≤◌, length};
 ghost use Rattle.base.specs.Bits.{digit};
 ghost use Rattle.base.specs.Bytes.{byte_at};

@@ -1,6 +1,7 @@
 // The ballot table's header: its season, its fields, the weights of its peers, the struct of them that is read once,
 // whether each is in range, and which sets of peers reach its threshold.
 // It uses the crate base and no other.
+#![tactic(auto)]
 ghost use Rattle.std.specs.Prelude.{◌≡◌, ◌≤◌};
 ghost use Rattle.header.specs.Header.{header_size, field_of, peers_of, threshold_of, honest_of, periods_of, items_of};
 ghost use Rattle.header.specs.Header.{joined, head_of, is_honest, honest_count};

@@ -2,3 +2,4 @@
 // had.
 // No function stands here. It uses the definitions and laws of rules, the exact edges of the steps, and form for the
 // bytes of calls; guarantee carries it to the bytes.
+#![tactic(auto)]

@@ -3,6 +3,7 @@
 // Each is judged by a row of tests, in the order of its refusals, then done in place: nothing is copied, and nothing
 // validated again.
 // It uses the tests of guard and bag_guard to judge, and bag, clearing and state to change.
+#![tactic(auto)]
 ghost use Rattle.rules.specs.declared.Step.TheVariants.{FalseSignature, FalseShare, FalseHash, FalseBacking, Down, Up, ClearHashes};
 ghost use Rattle.view.specs.Ready.{Ready};
 ghost use Rattle.view.specs.Stepped.{Stepped};

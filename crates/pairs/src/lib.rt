@@ -1,5 +1,6 @@
 // Pairs of offset and length, m of them from byte `at` of a list of bytes on, and the texts that they mark out in it.
 // It uses the crate base and no other; it knows no table.
+#![tactic(auto)]
 ghost use Rattle.std.specs.Prelude.{◌≡◌, ◌≤◌};
 ghost use Rattle.pairs.specs.Pairs.{pair_number, offset_of, size_of, first_offset, end_before, starts_at_end};
 ghost use Rattle.pairs.specs.Pairs.{pairs_fit, last_end, pairs_ok, text_of};

@@ -2,7 +2,7 @@
 use Prim.Native.Nat.{ℕ, ◌+◌, ◌-◌, ◌<◌, ◌≤◌}
 use native.Mathlib.Decide.{ℕ_discrete}
 use native.Mathlib.Omega.{arith}
-use mathlib.Core.Bool.{Bool, true, false, ◌&&◌, ◌||◌, or_false}
+use mathlib.Core.Bool.{Bool, true, false, ◌&&◌, ◌||◌, or-false}
 use mathlib.Core.List.{List}
 use mathlib.Core.Path.{◌≡◌, refl, sym, ap, subst, fun_ext, ◌∙◌}
 use mathlib.Core.Logic.{◌⊎◌, inl, inr}
@@ -68,7 +68,7 @@ row_step sets n i k = go (ℕ_discrete i n)
         (λ q. let l = ltb-true i (n + 1) q in lt-ltb i n (omega arith))
 
     go : Dec (i ≡ n) → ((eqb i n && in_set (set sets n) k) || (ltb i n && in_set (set sets i) k)) ≡ (ltb i (n + 1) && in_set (set sets i) k)
-    go (yes e) = rw (eq-eqb i n e, le-ltb i n (omega arith), lt-ltb i (n + 1) (omega arith), e) (or_false (in_set (set sets n) k))
+    go (yes e) = rw (eq-eqb i n e, le-ltb i n (omega arith), lt-ltb i (n + 1) (omega arith), e) (or-false (in_set (set sets n) k))
     go (no d) = rw (ne_eqb i n d) (ap (λ (b : Bool). b && in_set (set sets i) k) (below d))
 
 no_row : (j p : ℕ) (sets : List Signers) (f : Fact) → known_to j p (on_row sets 0) f ≡ false

@@ -2,6 +2,7 @@
 // handed out as the part of the sheet that it is. Nothing is copied, and no byte is changed.
 // It uses pairs, twins and ballot's items as the ballot table does, with another place for the pairs and with audits of
 // either length.
+#![tactic(auto)]
 ghost use Rattle.std.specs.Prelude.{◌≡◌};
 ghost use Rattle.sheets.specs.Sheet.{count_on, sheet_ok};
 ghost use Rattle.sheets.specs.Found.{sheet_answer, found, handed_out};

@@ -2,6 +2,7 @@
 // The bag's entries are in bag, whole sets in sets.
 // Above these three all but bag_valid and valid see what the bytes say, `contents`, and no byte.
 // It uses bits to read and to write, and the vocabulary of rules.
+#![tactic(auto)]
 pub mod facts;
 pub mod layout;
 pub mod numbers;

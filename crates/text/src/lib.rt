@@ -1,6 +1,7 @@
 // Text written into a lent buffer: bytes, words and numbers, each at the place where the one before it ended.
 // A place is handed on by value. What lies past the buffer's end is counted and not written.
 // It uses io for decimal digits, and no other crate.
+#![tactic(auto)]
 ghost use Rattle.std.specs.Prelude.{◌+◌, [], ◌∷◌, ◌≡◌};
 ghost use Rattle.text.specs.Wrote.{place_of, Wrote};
 ghost use Rattle.text.specs.Decimal.{decimal, field};

@@ -1,6 +1,7 @@
 // Twins: two of the texts that pairs mark out are the same. A text is compared with those before it only where one of
 // them has its mark.
 // It uses pairs for the texts, and base; the ballot table and the sheet go through it.
+#![tactic(auto)]
 ghost use Rattle.std.specs.Prelude.{◌≡◌};
 ghost use Rattle.twins.specs.Twins.{differ, new_at, twinless};
 ghost use Rattle.twins.specs.Marks.{mark_of, mark_at, Seen};

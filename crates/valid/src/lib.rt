@@ -2,6 +2,7 @@
 // A state need not be one that steps lead to.
 // It uses bag_valid for the bag, and state's layout and bits for the rest.
 // As bag_valid does, it reads bytes by their places.
+#![tactic(auto)]
 ghost use Rattle.std.specs.Prelude.{◌≡◌};
 ghost use Rattle.valid.specs.StateOk.{state_ok};
 ghost use Rattle.view.specs.Ready.{Room};

@@ -2,3 +2,4 @@
 // Here bytes meet rules. What stands above speaks of contents and of no place in the bytes,
 // but for row 14, which bag_valid and valid say and test.
 // It uses state for what the bytes say, header for the table, and rules; it has no code.
+#![tactic(auto)]

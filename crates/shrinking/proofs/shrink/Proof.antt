@@ -19,7 +19,7 @@ cut-requires c κs =
     let table = c.before.before.before in
     let judged = table.before.before in
     let good = sym judged.check-input.ensures ∙ table.before.if1.false in
-    (good, table.table_in_lem.ensures, search rules, search rules, all-kept steps_most)
+    (good, table.table_in.ensures, search rules, search rules, all-kept steps_most)
 
 returns-2 : tie.Need-returns-2
 returns-2 c =

@@ -1,0 +1,19 @@
+-- What is refused alters nothing; what is taken has the rules' effect, by `did_post`.
+use borrow.Author.Rules.{rules}
+use Rattle.view.proofs.Judged.{asked}
+use Rattle.view.proofs.Whole.{refused, taken}
+use Rattle.casting.proofs.May.{may_post}
+use Rattle.casting.proofs.Did.{did_post}
+use Rattle.casting.proofs.step_post.Goals as goal
+
+pub judge_post-a-requires : goal.judge_post-a-requires
+judge_post-a-requires c = search asked
+
+pub returns-then-a-ne0 : goal.returns-then-a-ne0
+returns-then-a-ne0 c = search refused
+
+pub add_fact-requires : goal.add_fact-requires
+add_fact-requires c = search (asked, may_post) depth 6
+
+pub returns : goal.returns
+returns c = search (taken, did_post) depth 6

@@ -1,5 +1,0 @@
-pub mod Called
-pub mod Cells
-pub mod Lent
-pub mod Moved
-pub mod Moves

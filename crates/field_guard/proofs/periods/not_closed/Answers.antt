@@ -1,0 +1,6 @@
+use Rattle.base.proofs.Tests.{read-tests}
+use borrow.Author.Rules.{rules}
+use Rattle.field_guard.proofs.periods.not_closed.Goals as goal
+
+pub returns : goal.returns
+returns c = search read-tests

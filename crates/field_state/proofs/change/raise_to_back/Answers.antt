@@ -1,0 +1,6 @@
+use Rattle.field_state.proofs.Changed.{raised_to_back}
+use borrow.Author.Rules.{rules}
+use Rattle.field_state.proofs.change.raise_to_back.Goals as goal
+
+pub returns : goal.returns
+returns c = search raised_to_back

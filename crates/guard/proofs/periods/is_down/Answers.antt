@@ -1,0 +1,7 @@
+-- By `read-tests`.
+use Rattle.base.proofs.Tests.{read-tests}
+use borrow.Author.Rules.{rules}
+use Rattle.guard.proofs.periods.is_down.Goals as goal
+
+pub returns : goal.returns
+returns c = search read-tests

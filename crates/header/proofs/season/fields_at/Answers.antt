@@ -1,0 +1,12 @@
+-- By the season.
+use borrow.Author.Rules.{rules}
+use Rattle.header.proofs.season.fields_at.Goals as goal
+
+pub returns-in-First : goal.returns-in-First
+returns-in-First c = rw c.in-First.is
+
+pub returns-in-Second : goal.returns-in-Second
+returns-in-Second c = rw c.in-Second.is
+
+pub returns-in-Third : goal.returns-in-Third
+returns-in-Third c = rw c.in-Third.is

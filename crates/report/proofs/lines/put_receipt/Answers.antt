@@ -1,0 +1,10 @@
+-- The parts of the line, one after the other.
+use Rattle.text.proofs.Writing.{◌▷◌}
+use Rattle.report.specs.Lines.{receipt_line}
+use borrow.Author.Rules.{rules}
+use Rattle.report.proofs.lines.put_receipt.Goals as goal
+
+pub returns : goal.returns
+unfolding receipt_line
+returns c =
+    c.put_word-a.ensures ▷ c.put_small-b.ensures ▷ c.put_small-c.ensures ▷ c.put_byte.ensures

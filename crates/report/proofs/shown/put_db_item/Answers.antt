@@ -1,0 +1,10 @@
+-- A line where there are signers.
+use Rattle.report.proofs.Rows.{some_signers, no_signers}
+use borrow.Author.Rules.{rules}
+use Rattle.report.proofs.shown.put_db_item.Goals as goal
+
+pub returns-then-signers-gt0 : goal.returns-then-signers-gt0
+returns-then-signers-gt0 c = search some_signers
+
+pub returns : goal.returns
+returns c = search no_signers
