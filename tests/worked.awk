@@ -42,8 +42,8 @@ function add(part, answer,    word) {
     gsub(/[()]|λ j\. /, "", part)
     split(part, word, " ")
     if (sub(/^written /, "", part)) call(answer, written(part))
-    else if (part == "noStep") call(5, no_step)
-    else if (sub(/^forPeers [0-9]+ /, "", part)) for_peers(word[2], part)
+    else if (part == "no_step") call(5, no_step)
+    else if (sub(/^for_peers [0-9]+ /, "", part)) for_peers(word[2], part)
     else fetch_and_hash(word[2], word[3])
 }
 
@@ -65,19 +65,19 @@ function claim(before, list, step, answer) {
 
 /^$/ { list = ""; comment = "" }
 /^-- / && match($0, /\([a-z0-9-]+\)/) { comment = substr($0, RSTART + 1, RLENGTH - 2) }
-/^noStep = / {
-    gsub(/noStep = | ∷ \[\]| ∷/, "")
+/^no_step = / {
+    gsub(/no_step = | ∷ \[\]| ∷/, "")
     no_step = $0
 }
-/^abbrev pub [A-Za-z0-9]+ : List \(List ℕ\)$/ {
+/^abbrev pub [A-Za-z0-9_]+ : List \(List ℕ\)$/ {
     list = $3
     if (comment != "") case_of[list] = comment
     next
 }
 
-# E .answers (before ++ list) (written (Publish 2)) ≡ 12
-/E \.answers \([A-Za-z0-9]+ \+\+ [A-Za-z0-9]+\) \(written / {
-    sub(/.*E \.answers /, "")
+# E.answers (before ++ list) (written (Publish 2)) ≡ 12
+/E\.answers \([A-Za-z0-9_]+ \+\+ [A-Za-z0-9_]+\) \(written / {
+    sub(/.*E\.answers /, "")
     gsub(/[()]|written /, "")
     step = $4 " " $5
     claim($1, $3, step, $NF)
@@ -95,7 +95,7 @@ function claim(before, list, step, answer) {
 list != "" {
     answer = match($0, /-- [0-9]+(:|$)/) ? substr($0, RSTART + 3, RLENGTH - 3) + 0 : 0
     sub(/ *--.*/, "")
-    while (match($0, /(written|forPeers [0-9]+) \([^()]*\)|noStep|(forPeers|fetchAndHash) [0-9]+ [A-Za-z0-9]+/)) {
+    while (match($0, /(written|for_peers [0-9]+) \([^()]*\)|no_step|(for_peers|fetch_and_hash) [0-9]+ [A-Za-z0-9_]+/)) {
         add(substr($0, RSTART, RLENGTH), answer)
         $0 = substr($0, RSTART + RLENGTH)
     }

@@ -2,3 +2,4 @@
 // more than the gain of the calls, and full is answered only with 256 entries.
 // It uses cleared_runs and growth, which say it of every engine that follows the rules, and guarantee for the engine on
 // bytes; it has no code.
+#![tactic(auto)]

@@ -3,3 +3,4 @@
 // `rehearsal` and `hall` cite; all of it of weights, with what follows where peers are counted.
 // Nothing runs here. It uses the laws of rules, engine, rehearsal and hall, liveness for the close of a period, the
 // worked runs of edges, and reading for the lines of a report; closes computes with it.
+#![tactic(auto)]

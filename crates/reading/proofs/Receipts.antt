@@ -73,9 +73,9 @@ module _ (h : Head) (c : Contents) (line : List ℕ) where
   unfolding same
   held_counted p x alike l m e =
       let one : for_receipt (same line) c p x ≡ 1 = rw (e, alike, same_self line) in
-      let inPeriod = sum-part (for_receipt (same line) c p) h.items x m in
-      let inAll = sum-part (λ (q : ℕ). sum h.items (for_receipt (same line) c q)) h.periods p l in
-      omega (arith, one, inPeriod, inAll)
+      let in_period = sum-part (for_receipt (same line) c p) h.items x m in
+      let in_total = sum-part (λ (q : ℕ). sum h.items (for_receipt (same line) c q)) h.periods p l in
+      omega (arith, one, in_period, in_total)
 
 -- the lines of a report
 abbrev lines_after : List ℕ → Head → Contents → Totals → List (List ℕ)

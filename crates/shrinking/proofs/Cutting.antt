@@ -11,7 +11,7 @@ use borrow.Author.Tests.{eq-eqb, ne_eqb, not-false}
 use Rattle.base.proofs.Truth.{split, or_l, or_r}
 use Rattle.rehearsal.specs.Input.{table_in, input_refusal, step_count}
 use Rattle.dropping.specs.Kept.{every_step}
-use Rattle.trials.specs.Answers.{answer_in, stepsLeft}
+use Rattle.trials.specs.Answers.{answer_in, steps_left}
 use Rattle.trials.specs.Flags.{kept, room}
 use Rattle.shrinking.specs.Shrunk.{clean, shrink_refusal, steps_most}
 use Rattle.shrinking.specs.Uncut.{Uncut}
@@ -29,7 +29,7 @@ module _ {input flags : List ℕ} (good : input_refusal input ≡ 0) where
   unfolding shrink_refusal
   is_clean c = record { answer = rw (good, c); left = λ e. absurd (omega (arith, e)) }
 
-  is_cut : clean input ≡ false → kept flags ≡ stepsLeft input → Cut input flags 0
+  is_cut : clean input ≡ false → kept flags ≡ steps_left input → Cut input flags 0
   unfolding shrink_refusal
   is_cut c left = record { answer = rw (good, c); left = λ e. left }
 
@@ -48,7 +48,7 @@ module _ {input : List ℕ} {last : ℕ} {flags s : List ℕ} (U : Uncut input l
       let taken : eqb (answer_in input every_step) 0 ≡ true = eq-eqb _ 0 (sym wanted_is ∙ zero) in
       is_clean U.good (or_r (eqb (step_count input) 0) _ taken)
 
-  pub says_left : {now : List ℕ} → (a ≡ 0 → ⊥) → step_count input ≡ last + 1 → kept now ≡ stepsLeft input → Cut input now 0
+  pub says_left : {now : List ℕ} → (a ≡ 0 → ⊥) → step_count input ≡ last + 1 → kept now ≡ steps_left input → Cut input now 0
   unfolding clean
   says_left bad count left =
       let some : eqb (step_count input) 0 ≡ false = ne_eqb (step_count input) 0 (λ e. omega (arith, count, e)) in

@@ -11,7 +11,7 @@ use Rattle.base.proofs.Truth.{either}
 use Rattle.text.specs.Wrote.{each}
 use Rattle.report.specs.Lines.{refused_line}
 use Rattle.rehearsal.specs.Input.{input_refusal, step_count}
-use Rattle.trials.specs.Answers.{stepsLeft}
+use Rattle.trials.specs.Answers.{steps_left}
 use Rattle.shrinking.specs.Shrunk.{clean, shrink_refusal, kept_line, shrunk}
 
 -- what an input that is not refused has passed
@@ -50,6 +50,6 @@ module _ (input : List ℕ) where
     unfolding shrunk shrink_refusal
     then_clean e = rw (zero, e)
 
-    pub then_left : clean input ≡ false → each (kept_line (stepsLeft input)) (step_count input) ≡ shrunk input
+    pub then_left : clean input ≡ false → each (kept_line (steps_left input)) (step_count input) ≡ shrunk input
     unfolding shrunk shrink_refusal
     then_left e = rw (zero, e)

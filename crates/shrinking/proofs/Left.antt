@@ -20,7 +20,7 @@ use Rattle.dropping.proofs.Left.{shrinks}
 use Rattle.dropping.proofs.Rules.{left_ruled}
 use Rattle.dropping.proofs.Running.{run_none, step_kept}
 use Rattle.shrinking.proofs.Judged.{input_passed, not-clean, then_left}
-use Rattle.trials.specs.Answers.{lastStep, answer_in, stepsLeft}
+use Rattle.trials.specs.Answers.{last_step, answer_in, steps_left}
 use Rattle.shrinking.specs.Shrunk.{clean, shrink_refusal}
 use Rattle.shrinking.specs.Left.{StillRefuses}
 
@@ -38,13 +38,13 @@ module _ (input : List ℕ) where
       step_kept (by_bytes (table_in input)) (call_at input) every_step k refl
       ∙ ap (λ (s : List ℕ). step_bytes (table_in input) s (call_at input k)) (states k)
 
-  last_reported : answer_in input every_step ≡ step_answer (table_in input) (state_at input (lastStep input)) (call_at input (lastStep input))
+  last_reported : answer_in input every_step ≡ step_answer (table_in input) (state_at input (last_step input)) (call_at input (last_step input))
   unfolding answer_in last_answer
-  last_reported = ap (λ (s : List ℕ). step_answer (table_in input) s (call_at input (lastStep input))) (states (lastStep input))
+  last_reported = ap (λ (s : List ℕ). step_answer (table_in input) s (call_at input (last_step input))) (states (last_step input))
 
 module _ (input : List ℕ) (zero : shrink_refusal input ≡ 0) where
   abbrev last : ℕ
-  last = lastStep input
+  last = last_step input
 
   some_step : step_count input ≡ 0 → ⊥
   unfolding clean
@@ -58,7 +58,7 @@ module _ (input : List ℕ) (zero : shrink_refusal input ≡ 0) where
   counted = omega (arith, some_step)
 
   pub still_refuses : StillRefuses input
-  unfolding answer_in stepsLeft
+  unfolding answer_in steps_left
   still_refuses =
       let E = by_bytes (table_in input) in
       let S = shrinks E (call_at input) last in
@@ -69,8 +69,8 @@ module _ (input : List ℕ) (zero : shrink_refusal input ≡ 0) where
         refuses = last_refused;
         settled = S.settled;
         minimal = S.minimal;
-        ends = ap (kept_calls (call_at input) (stepsLeft input)) counted ∙ S.replayed.ends;
-        replayed = ap (λ (n : ℕ). last_of (answers_from E fresh_state (kept_calls (call_at input) (stepsLeft input) n))) counted
+        ends = ap (kept_calls (call_at input) (steps_left input)) counted ∙ S.replayed.ends;
+        replayed = ap (λ (n : ℕ). last_of (answers_from E fresh_state (kept_calls (call_at input) (steps_left input) n))) counted
             ∙ S.replayed.answered ∙ S.minimal.same_answer;
         all_taken = S.all_taken (refused_stays (table_in input));
         printed = sym (then_left input (input_passed input zero) (not-clean input zero));

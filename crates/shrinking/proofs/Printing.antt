@@ -29,7 +29,7 @@ use Rattle.trials.proofs.Running.{table_long}
 use Rattle.shrinking.proofs.Judged.{input_passed, input_first, then_clean, then_left}
 use Rattle.trials.specs.Flags.{kept, room}
 use Rattle.shrinking.specs.Uncut.{Uncut}
-use Rattle.trials.specs.Answers.{answer_in, stepsLeft}
+use Rattle.trials.specs.Answers.{answer_in, steps_left}
 use Rattle.shrinking.specs.Shrunk.{clean, shrink_refusal, number_line, kept_line, shrunk, steps_most, shrunk_most}
 
 -- a rehearsal without steps
@@ -53,7 +53,7 @@ module _ {input : List ℕ} {last : ℕ} {flags s : List ℕ} (U : Uncut input l
       let taken : eqb (answer_in input every_step) 0 ≡ true = eq-eqb _ 0 (sym wanted_is ∙ zero) in
       renamed (then_clean input U.good (or_r (eqb (step_count input) 0) _ taken)) w
 
-  pub says_left : {keep : Kept} {out is : List ℕ} {to : ℕ} → (a ≡ 0 → ⊥) → step_count input ≡ last + 1 → keep ≡ stepsLeft input
+  pub says_left : {keep : Kept} {out is : List ℕ} {to : ℕ} → (a ≡ 0 → ⊥) → step_count input ≡ last + 1 → keep ≡ steps_left input
       → Wrote out 0 (each (kept_line keep) (last + 1)) is to → Wrote out 0 (shrunk input) is to
   unfolding clean
   says_left bad count kept w =
@@ -109,14 +109,14 @@ unfolding shrunk
 shrunk_most_lem input = go (either (eqb (shrink_refusal input) 0))
   where
     lines : List ℕ
-    lines = each (kept_line (stepsLeft input)) (step_count input)
+    lines = each (kept_line (steps_left input)) (step_count input)
 
     go : (eqb (shrink_refusal input) 0 ≡ true) ⊎ (eqb (shrink_refusal input) 0 ≡ false)
         → length (cond (eqb (shrink_refusal input) 0) lines (refused_line (shrink_refusal input))) ≤ shrunk_most
     go (inl e) =
         let T = taken input (input_passed input (eqb-true _ 0 e)) in
-        rw e (each_most (kept_line (stepsLeft input)) 5 (step_count input) steps_most (steps_most_lem input T)
-        (λ k l. line_most_lem (stepsLeft input) k (omega (arith, steps_most_lem input T))))
+        rw e (each_most (kept_line (steps_left input)) 5 (step_count input) steps_most (steps_most_lem input T)
+        (λ k l. line_most_lem (steps_left input) k (omega (arith, steps_most_lem input T))))
     go (inr e) = rw e (omega (arith, refused_most (shrink_refusal input) (refusal_small input)))
 
 -- what `shrink` promises

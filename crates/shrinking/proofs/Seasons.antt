@@ -26,7 +26,7 @@ use Rattle.guarantee.proofs.Inputs.{not_too_long, inputs_alike}
 use Rattle.guarantee.proofs.Ones.{SameSteps, steps_alike, same_steps, unweighed_input}
 use Rattle.guarantee.proofs.Seeing.{refusal_seen_lem, Halves, refused_alike, alike, no_first_header, no_second_header}
 use Rattle.dropping.specs.Runs.{last_answer}
-use Rattle.trials.specs.Answers.{answer_in, stepsLeft}
+use Rattle.trials.specs.Answers.{answer_in, steps_left}
 use Rattle.shrinking.specs.Shrunk.{clean, shrink_refusal, shrunk}
 use Rattle.shrinking.specs.Seasons.{last_seen, shrunk_seen, OldShrinks, OldEnginesShrink}
 
@@ -36,7 +36,7 @@ module _ (input : List ℕ) where
   last_seen_lem = refl
 
   shrunk_seen_lem : shrunk input ≡ shrunk_seen (looks_by this_engine input) input
-  unfolding shrunk shrink_refusal clean stepsLeft step_count
+  unfolding shrunk shrink_refusal clean steps_left step_count
   shrunk_seen_lem = rw (refusal_seen_lem input, last_seen_lem)
 
 none_left : (input : List ℕ) (L M : Looks) → Halves L M → table_seen L input ≡ false → shrunk_seen L input ≡ shrunk_seen M input
@@ -88,7 +88,7 @@ module _ (input other : List ℕ) (R : SameButOnes input other) (few : length in
     answers_alike = λ i. last_answer (engines_alike i) (λ k. S.calls k i) (S.count i - 1)
 
   pub shrunk_as_second : shrunk input ≡ shrunk other
-  unfolding shrunk shrink_refusal clean stepsLeft
+  unfolding shrunk shrink_refusal clean steps_left
   shrunk_as_second = go (ℕ_discrete (input_refusal other) 0)
     where
       go : Dec (input_refusal other ≡ 0) → shrunk input ≡ shrunk other

@@ -34,18 +34,18 @@ use Rattle.dropping.specs.Kept.{Kept, every_step, without, lost, kept_calls}
 use Rattle.dropping.specs.Passes.{spare, tried, tried_below, passes, left}
 use Rattle.dropping.specs.Runs.{last_answer}
 use Rattle.dropping.proofs.Rules.{answers_ruled}
-use Rattle.trials.specs.Answers.{lastStep, answer_in, stepsLeft}
+use Rattle.trials.specs.Answers.{last_step, answer_in, steps_left}
 use Rattle.shrinking.specs.Shrunk.{clean, shrink_refusal, number_line, kept_line, shrunk}
 use Rattle.shrinking.proofs.Judged.{input_first, then_clean, then_left}
 use Rattle.shrinking.specs.Worked.{late_share, says_clean, ShrunkWorked}
 
 -- the last answers by the rules, and so on the bytes
 abbrev ruled : List ℕ → Kept → ℕ
-ruled input = last_answer (by_rules (rules_table (table_in input))) (call_at input) (lastStep input)
+ruled input = last_answer (by_rules (rules_table (table_in input))) (call_at input) (last_step input)
 
 as_ruled : (input : List ℕ) → refusal (table_in input) ≡ 0 → answer_in input ≡ ruled input
 unfolding answer_in
-as_ruled input fit = answers_ruled (bytes_follow (table_in input) fit) (call_at input) (lastStep input)
+as_ruled input fit = answers_ruled (bytes_follow (table_in input) fit) (call_at input) (last_step input)
 
 -- the inputs and their tables are taken, and what is no input
 pub record Inputs : Type 0 where
@@ -69,7 +69,7 @@ inputs = record {
 pub record Computed : Type 0 where
   pub last_refused : ruled late_share every_step ≡ 9
   pub last_taken : ruled input_r every_step ≡ 0
-  pub printed : each (kept_line (left (ruled late_share) (lastStep late_share))) (step_count late_share) ≡ 54 ∷ 10 ∷ 55 ∷ 10 ∷ []
+  pub printed : each (kept_line (left (ruled late_share) (last_step late_share))) (step_count late_share) ≡ 54 ∷ 10 ∷ 55 ∷ 10 ∷ []
   pub clean_line : refused_line 18 ≡ says_clean
   pub header_line : refused_line 1 ≡ 114 ∷ 101 ∷ 102 ∷ 117 ∷ 115 ∷ 101 ∷ 100 ∷ 32 ∷ 49 ∷ 10 ∷ []
 
@@ -91,10 +91,10 @@ late_refused =
     let last = ap (λ (answer : Kept → ℕ). answer every_step) late_ruled ∙ computed.last_refused in
     rw (inputs.late_share_lem.2, last) refl
 
-late_printed : each (kept_line (stepsLeft late_share)) (step_count late_share) ≡ 54 ∷ 10 ∷ 55 ∷ 10 ∷ []
-unfolding stepsLeft
+late_printed : each (kept_line (steps_left late_share)) (step_count late_share) ≡ 54 ∷ 10 ∷ 55 ∷ 10 ∷ []
+unfolding steps_left
 late_printed =
-    ap (λ (answer : Kept → ℕ). each (kept_line (left answer (lastStep late_share))) (step_count late_share)) late_ruled ∙ computed.printed
+    ap (λ (answer : Kept → ℕ). each (kept_line (left answer (last_step late_share))) (step_count late_share)) late_ruled ∙ computed.printed
 
 r_clean : clean input_r ≡ true
 unfolding clean

@@ -6,7 +6,7 @@ use Rattle.text.specs.Chunks.{chunk, InChunks}
 use Rattle.report.specs.Lines.{refused_line}
 use Rattle.rehearsal.specs.Input.{step_count}
 use Rattle.dropping.specs.Kept.{Kept}
-use Rattle.trials.specs.Answers.{stepsLeft}
+use Rattle.trials.specs.Answers.{steps_left}
 use Rattle.shrinking.specs.Shrunk.{shrink_refusal, kept_line, shrunk}
 
 -- line k, by the refusal, or 0, and the steps that are kept
@@ -15,7 +15,7 @@ line_of refusal keep k = cond (eqb refusal 0) (kept_line keep k) (refused_line r
 
 -- line k of an input's output
 abbrev pub line_in : List ℕ → ℕ → List ℕ
-line_in input = line_of (shrink_refusal input) (stepsLeft input)
+line_in input = line_of (shrink_refusal input) (steps_left input)
 
 -- and how many there are
 unfoldable pub lines_in : List ℕ → ℕ

@@ -7,7 +7,7 @@ use Rattle.report.specs.Words.{newline}
 use Rattle.report.specs.Lines.{refused_line}
 use Rattle.rehearsal.specs.Input.{input_refusal, step_count}
 use Rattle.dropping.specs.Kept.{Kept, every_step}
-use Rattle.trials.specs.Answers.{answer_in, stepsLeft}
+use Rattle.trials.specs.Answers.{answer_in, steps_left}
 
 -- document 02's word: there are no steps, or the last answers 0
 unfoldable pub clean : List ℕ → Bool
@@ -29,7 +29,7 @@ kept_line keep k = cond (keep k) (number_line k) []
 unfoldable pub shrunk : List ℕ → List ℕ
 shrunk input =
     cond (eqb (shrink_refusal input) 0)
-    (each (kept_line (stepsLeft input)) (step_count input))
+    (each (kept_line (steps_left input)) (step_count input))
     (refused_line (shrink_refusal input))
 
 -- no input has more steps, a short tail counted: 65,536 bytes of which a table takes six at least

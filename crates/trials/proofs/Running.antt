@@ -25,7 +25,7 @@ use Rattle.dropping.specs.Kept.{Kept, kept_calls}
 use Rattle.dropping.specs.Passes.{left}
 use Rattle.dropping.specs.Runs.{last_answer}
 use Rattle.dropping.proofs.Running.{run_none, run-kept, run_skipped}
-use Rattle.trials.specs.Answers.{lastStep, answer_in, stepsLeft}
+use Rattle.trials.specs.Answers.{last_step, answer_in, steps_left}
 use Rattle.trials.specs.Running.{Fixed, Stands}
 
 -- the table's length is where it ends, and the steps start
@@ -96,7 +96,7 @@ all_ran {input} {s} {keep} e a b = subst (λ (i : ℕ). Stands input keep i s) (
 -- the last step's answer
 
 module _ {input table : List ℕ} {last : ℕ} {h : Head} {rows : List ℕ} (F : Fixed input table h rows last) where
-  pub is_last : last ≡ lastStep input
+  pub is_last : last ≡ last_step input
   is_last = omega (arith, F.counted)
 
   -- there are no more steps than bytes in the longest input
@@ -119,9 +119,9 @@ module _ {input table : List ℕ} {last : ℕ} {h : Head} {rows : List ℕ} (F :
   last_ran now c done = done ∙ rw (F.made.cut, c, now.state, is_last)
 
   -- what passes leave
-  pub steps_left : {keep : Kept} → keep ≡ left (answer_in input) last → keep ≡ stepsLeft input
-  unfolding stepsLeft
-  steps_left e = e ∙ ap (left (answer_in input)) is_last
+  pub steps_left_lem : {keep : Kept} → keep ≡ left (answer_in input) last → keep ≡ steps_left input
+  unfolding steps_left
+  steps_left_lem e = e ∙ ap (left (answer_in input)) is_last
 
 -- what the trials have in common, and room for a flag for each step
 

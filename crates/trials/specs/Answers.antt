@@ -7,14 +7,14 @@ use Rattle.dropping.specs.Passes.{left}
 use Rattle.dropping.specs.Runs.{last_answer}
 
 -- the number of the last step, counted from 0; an input without steps is refused before it is asked
-abbrev pub lastStep : List ℕ → ℕ
-lastStep input = step_count input - 1
+abbrev pub last_step : List ℕ → ℕ
+last_step input = step_count input - 1
 
 -- the last answer, where of the steps before the last those that are kept have run: by `step_answer` and `step_bytes`,
 -- from the fresh state
 unfoldable pub answer_in : List ℕ → Kept → ℕ
-answer_in input = last_answer (by_bytes (table_in input)) (call_at input) (lastStep input)
+answer_in input = last_answer (by_bytes (table_in input)) (call_at input) (last_step input)
 
 -- which steps are left: passes from the last but one to the first, until one drops none
-unfoldable pub stepsLeft : List ℕ → Kept
-stepsLeft input = left (answer_in input) (lastStep input)
+unfoldable pub steps_left : List ℕ → Kept
+steps_left input = left (answer_in input) (last_step input)

@@ -4,7 +4,7 @@ ghost use Rattle.state.specs.Layout.{size};
 ghost use Rattle.dropping.specs.Kept.{every_step};
 ghost use Rattle.dropping.specs.Trials.{Tried, Passed};
 ghost use Rattle.trials.specs.Flags.{kept, room};
-ghost use Rattle.trials.specs.Answers.{answer_in, stepsLeft};
+ghost use Rattle.trials.specs.Answers.{answer_in, steps_left};
 ghost use Rattle.trials.specs.Running.{Fixed};
 
 use crate::flags::{drop_step, is_kept, put_back};
@@ -80,7 +80,7 @@ pub fn passes(
 )
     requires { Fixed input.now table.now h rows.now last × (length s.old ≡ size)
         × (wanted ≡ answer_in input.now every_step) × (last < room flags.old) × (kept flags.old ≡ every_step) }
-    ensures { kept flags.new ≡ stepsLeft input.now }
+    ensures { kept flags.new ≡ steps_left input.now }
 {
     let mut again = true;
     while again {

@@ -1,4 +1,4 @@
--- Each arm is the clause of `inRange` for its kind.
+-- Each arm is the clause of `in_range` for its kind.
 use Rattle.state.proofs.Arms.{range_found}
 use Rattle.state.proofs.range.in_range.Goals as goal
 

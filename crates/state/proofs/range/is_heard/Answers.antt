@@ -1,4 +1,4 @@
--- The peer is tested first, as in `inRange`.
+-- The peer is tested first, as in `in_range`.
 use Prim.Native.Nat.{ℕ}
 use mathlib.Core.Path.{ap}
 use lib.Dec.{ltb}

@@ -1,4 +1,4 @@
--- The peer whose database it is is tested first, as in `inRange`.
+-- The peer whose database it is is tested first, as in `in_range`.
 use Rattle.state.proofs.range.is_known.Goals as goal
 
 pub returns-then-is_peer : goal.returns-then-is_peer

@@ -1,0 +1,7 @@
+-- The flag is 0.
+use borrow.Author.Rules.{rules}
+use Rattle.trials.proofs.Flagged.{flag_read}
+use Rattle.trials.proofs.flags.is_kept.Goals as goal
+
+pub returns : goal.returns
+returns c = search flag_read

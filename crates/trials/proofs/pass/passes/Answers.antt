@@ -1,0 +1,22 @@
+-- Passes lead from every step to what is kept, and end where one drops none.
+use mathlib.Core.Path.{◌≡◌}
+use lib.ListN.{length}
+use borrow.Author.Rules.{rules}
+use Rattle.state.specs.Layout.{size}
+use Rattle.dropping.proofs.Passing.{Between, between_none, between_more, between-all, to_do, less_to_do}
+use Rattle.trials.specs.Flags.{kept, room}
+use Rattle.trials.specs.Answers.{answer_in}
+use Rattle.trials.proofs.Running.{steps_left_lem}
+use Rattle.trials.proofs.pass.passes.Goals as goal
+
+pub loop-again-init : goal.loop-again-init
+loop-again-init c = (search rules, search rules, search between_none)
+
+pub loop-again-smaller : goal.loop-again-smaller
+loop-again-smaller c = search less_to_do
+
+pub loop-again-preserved : goal.loop-again-preserved
+loop-again-preserved c = (search rules, search rules, search between_more)
+
+pub returns : goal.returns
+returns c = search (steps_left_lem, between-all)
