@@ -6,7 +6,7 @@
  * two periods, an item in each. It exits with 1 if its own fails, if the input
  * cannot be read, or if memory is out.
  *
- *     rt staticlib board
+ *     tools/build board
  *     cc -Iinclude examples/boards.c target/staticlib/libboard.a -o boards
  */
 #include "board.h"

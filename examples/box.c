@@ -9,7 +9,7 @@
  * 6`. At the first difference it says so and exits with 1; also if the input is no
  * rehearsal or cannot be read, or if memory is out.
  *
- *     rt staticlib board && rt staticlib field
+ *     tools/build board field
  *     cc -Iinclude examples/box.c target/staticlib/libfield.a target/staticlib/libboard.a -o box
  *     ./box < cases/good-period.bin
  */

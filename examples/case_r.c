@@ -2,7 +2,7 @@
  * step's number and answer, then the entries of the bag. Then as one rehearsal:
  * its report. It exits with 1 unless all went well.
  *
- *     rt staticlib board
+ *     tools/build board
  *     cc -Iinclude examples/case_r.c target/staticlib/libboard.a -o case_r
  */
 #include "board.h"

@@ -6,7 +6,7 @@
  * the count, as `period 1: entries 33, gain 33`, and for each clear the entries
  * before and after it. It exits with 1 if a step is refused, or if memory is out.
  *
- *     rt staticlib board
+ *     tools/build board
  *     cc -Iinclude examples/clear.c target/staticlib/libboard.a -o clear
  */
 #include "board.h"

@@ -8,7 +8,7 @@
  * period, three items. It exits with 1 if the words are others, if the input
  * cannot be read, if what was written is no sheet, or if memory is out.
  *
- *     rt staticlib board
+ *     tools/build board
  *     cc -Iinclude examples/sheet.c target/staticlib/libboard.a -o sheet
  */
 #include "board.h"

@@ -8,7 +8,7 @@
  * one of its own: one peer, one period, two votes that clash. It exits with 1 if
  * the input cannot be read, or if memory is out.
  *
- *     rt staticlib board
+ *     tools/build board
  *     cc -Iinclude examples/shrink.c target/staticlib/libboard.a -o shrink
  */
 #include "board.h"

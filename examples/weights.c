@@ -4,7 +4,7 @@
  * `signers 1 2, weight 5: 0`. It exits with 1 unless the share is given exactly
  * where the signers weigh as much as the threshold, or if memory is out.
  *
- *     rt staticlib board
+ *     tools/build board
  *     cc -Iinclude examples/weights.c target/staticlib/libboard.a -o weights
  */
 #include "board.h"

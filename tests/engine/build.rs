@@ -1,5 +1,5 @@
-//! Links the static libraries of the engine and of the field peer, which `rt staticlib
-//! board` and `rt staticlib field` make.
+//! Links the static libraries of the engine and of the field peer, which `tools/build
+//! board field` makes.
 
 use std::path::Path;
 
@@ -11,7 +11,7 @@ fn main() {
         let library = folder.join(format!("lib{name}.a"));
         println!("cargo:rerun-if-changed={}", library.display());
         if !library.exists() {
-            panic!("target/staticlib/lib{name}.a is missing: run `rt staticlib {name}` first");
+            panic!("target/staticlib/lib{name}.a is missing: run `tools/build {name}` first");
         }
         println!("cargo:rustc-link-lib=static={name}");
     }

@@ -1,5 +1,8 @@
 // One peer for the field: the box of one honest peer, on bytes.
-// It uses field_rules for what it is to do, field_form to do it, field_valid for row 14, ballot for the table.
+// It uses field_rules for what it is to do, field_form to do it, field_valid for row 14, ballot for the table. For C the
+// crate field_c exports these functions.
+#![tactic(auto)]
+
 ghost use Rattle.std.specs.Prelude.{◌≡◌};
 ghost use Rattle.field_state.specs.Layout.{size};
 ghost use Rattle.field.specs.Calls.{message_answer, message_leaves, own_answer, own_leaves, own_sends};
@@ -7,16 +10,14 @@ ghost use Rattle.field.specs.Calls.{message_answer, message_leaves, own_answer, 
 mod calls; // the two calls
 
 // The length of the field peer's state; a state of zeros is fresh.
-#[unsafe(no_mangle)]
-pub extern "C" fn field_state_length() -> usize
+pub fn field_state_length() -> usize
     ensures { result ≡ size }
 {
     field_state::layout::SIZE
 }
 
 // Brings a message to the peer; the answer is 0, or the refusal, which alters nothing.
-#[unsafe(no_mangle)]
-pub extern "C" fn field_message(table: &[u8], peer: u8, state: &mut [u8], message: &[u8]) -> u8
+pub fn field_message(table: &[u8], peer: u8, state: &mut [u8], message: &[u8]) -> u8
     ensures { (result ≡ message_answer table.now peer state.old message.now)
         × (state.new ≡ message_leaves table.now peer state.old message.now) }
 {
@@ -24,14 +25,7 @@ pub extern "C" fn field_message(table: &[u8], peer: u8, state: &mut [u8], messag
 }
 
 // Has the peer do a step of its own, and writes what it sends; the answer is 0, or the refusal, which alters nothing.
-#[unsafe(no_mangle)]
-pub extern "C" fn field_step(
-    table: &[u8],
-    peer: u8,
-    state: &mut [u8],
-    step: &[u8],
-    sent: &mut [u8],
-) -> u8
+pub fn field_step(table: &[u8], peer: u8, state: &mut [u8], step: &[u8], sent: &mut [u8]) -> u8
     ensures value { result ≡ own_answer table.now peer state.old step.now
         sent.old }
     ensures state_after { state.new ≡ own_leaves table.now peer state.old step.now

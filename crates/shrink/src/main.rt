@@ -2,13 +2,16 @@
 // output.
 // One byte more than a rehearsal may have is read, so that a longer input shows. All that matters is in the crate
 // shrinking.
+#![tactic(auto)]
+
 use rehearsal::INPUT_MOST;
 use shrinking::SHRUNK_MOST;
+use std::io::Write;
 
-fn main() {
+fn main(rt: HostRuntime) {
     let mut input = [0u8; INPUT_MOST + 1];
-    let got = io::read_full(libc::STDIN_FILENO, &mut input);
+    let got = streams::read_full(&mut rt.stdin(), &mut input);
     let mut out = [0u8; SHRUNK_MOST];
     let size = shrinking::shrink(&input[..got], &mut out);
-    io::write_all(libc::STDOUT_FILENO, &out[..size]);
+    let _ = rt.stdout().write_all(&out[..size]);
 }

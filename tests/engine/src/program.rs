@@ -1,5 +1,4 @@
-//! The proved programs, from input to output. `rt ci` and `rt check` leave them in
-//! target/bin.
+//! The proved programs, from input to output. `tools/build` leaves them in target/bin.
 
 use std::io::{ErrorKind, Write};
 use std::path::{Path, PathBuf};
@@ -7,7 +6,7 @@ use std::process::{Command, Stdio};
 
 pub fn program(name: &str) -> PathBuf {
     let path = Path::new(env!("CARGO_MANIFEST_DIR")).join("../../target/bin").join(name);
-    assert!(path.exists(), "target/bin/{name} is missing: run `rt check {name}` first");
+    assert!(path.exists(), "target/bin/{name} is missing: run `tools/build {name}` first");
     path
 }
 

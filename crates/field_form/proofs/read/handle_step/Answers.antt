@@ -1,0 +1,9 @@
+use Rattle.field_form.proofs.Readings.{step_thirteen, other_step}
+use borrow.Author.Rules.{rules}
+use Rattle.field_form.proofs.read.handle_step.Goals as goal
+
+pub returns-then-step-ne13 : goal.returns-then-step-ne13
+returns-then-step-ne13 c = search other_step
+
+pub returns : goal.returns
+returns c = search step_thirteen

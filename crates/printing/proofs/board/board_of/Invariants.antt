@@ -1,0 +1,16 @@
+use Prim.Native.Nat.{◌≤◌, ◌-◌}
+use native.Mathlib.Omega.{arith}
+use mathlib.Core.Path.{◌≡◌, refl}
+use lib.ListN.{drop}
+use borrow.Author.Rules.{rules}
+use Rattle.rules.specs.Bag.{boards_in}
+use Rattle.state.specs.Contents.{bag_on}
+use Rattle.printing.specs.Board.{boards_on, published}
+use Rattle.printing.proofs.Finding.{found_at, one_passed, all_passed}
+use Rattle.printing.proofs.board.board_of.Given as goal
+
+abbrev pub invariant-loop-e : goal.invariant-loop-e
+invariant-loop-e l = (l.e ≤ l.n) × (published (boards_in (drop l.e (bag_on l.s))) l.p ≡ published (boards_on l.s) l.p)
+
+abbrev pub decreases-loop-e : goal.decreases-loop-e
+decreases-loop-e l = l.n - l.e

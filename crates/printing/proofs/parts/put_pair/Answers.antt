@@ -1,0 +1,7 @@
+-- One after the other.
+use borrow.Author.Rules.{rules}
+use Rattle.text.proofs.Writing.{◌▷◌}
+use Rattle.printing.proofs.parts.put_pair.Goals as goal
+
+pub returns : goal.returns
+returns c = c.put_number-next.ensures ▷ c.put_number.ensures

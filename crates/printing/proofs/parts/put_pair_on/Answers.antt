@@ -1,0 +1,10 @@
+-- The pair where the board has the item, and else nothing.
+use borrow.Author.Rules.{rules}
+use Rattle.printing.proofs.Measuring.{pair_written, pair_left_out}
+use Rattle.printing.proofs.parts.put_pair_on.Goals as goal
+
+pub returns-then-has_bit : goal.returns-then-has_bit
+returns-then-has_bit c = search pair_written
+
+pub returns : goal.returns
+returns c = search pair_left_out

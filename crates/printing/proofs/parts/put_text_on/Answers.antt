@@ -1,0 +1,10 @@
+-- The text where the board has the item, and else nothing.
+use borrow.Author.Rules.{rules}
+use Rattle.printing.proofs.Measuring.{text_written, text_left_out}
+use Rattle.printing.proofs.parts.put_text_on.Goals as goal
+
+pub returns-then-has_bit : goal.returns-then-has_bit
+returns-then-has_bit c = search text_written
+
+pub returns : goal.returns
+returns c = search text_left_out

@@ -1,0 +1,6 @@
+-- The last end of the header's own pairs.
+use borrow.Author.Rules.{rules}
+use Rattle.rehearsal.proofs.input.table_end.Goals as goal
+
+pub returns : goal.returns
+returns c = simp (c.items.ensures, c.header_size.ensures) at c.last_end.ensures
