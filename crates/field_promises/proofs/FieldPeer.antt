@@ -21,7 +21,7 @@ use Rattle.field_rules.specs.Rules.{Handled, handle, repeats}
 use Rattle.field_rules.specs.MessageBytes.{InBytes}
 use Rattle.field_rules.specs.BoxIn.{InPlace}
 use Rattle.field_rules.proofs.Again.{sends_again}
-use Rattle.field_runs.specs.Beside.{sends, messages, neither_full, InStep}
+use Rattle.field_runs.specs.Beside.{messages, neither_full, InStep}
 use Rattle.field_runs.specs.OnePeer.{OnePeer}
 use Rattle.field_runs.proofs.InStep.{ready_after}
 use Rattle.field_state.specs.Holding.{box_of, Holds}

@@ -1,6 +1,7 @@
 // The gain of a file of steps as a line of text, for any input bytes.
 // It uses gains to count, text and report for the line, and rehearsal for how long an input may be.
 #![tactic(auto)]
+
 ghost use Rattle.std.specs.Prelude.{◌≡◌, ◌≤◌, length};
 ghost use Rattle.text.specs.Wrote.{Wrote, over};
 ghost use Rattle.gain_line.specs.Told.{gain_line, told, told_most};

@@ -1,6 +1,6 @@
 -- What `fresh`, `write_sheet`, `rehearse` and `hang` see of a table is its refusal, its header, its texts and its clashes: where
 -- these are what they were, so are the answers, and what is left.
-use Prim.Native.Nat.{ℕ, zero, suc, ◌+◌, ◌<◌}
+use Prim.Native.Nat.{ℕ, zero, suc, ◌<◌}
 use native.Mathlib.Decide.{ℕ_discrete}
 use native.Mathlib.Omega.{arith}
 use mathlib.Core.Bool.{true, false, cond, ◌&&◌}
@@ -18,7 +18,6 @@ use Rattle.base.proofs.Truth.{either, and_l, and_r, and_false}
 use Rattle.header.specs.Header.{header_size, items_of, head_of, header_ok}
 use Rattle.pairs.specs.Pairs.{pairs_fit, last_end}
 use Rattle.ballot.specs.Table.{refusal, item_text, table_refusals}
-use Rattle.clash.specs.Clash.{clash_in}
 use Rattle.report.specs.Lines.{refused_line}
 use Rattle.engine.specs.Engine.{fresh_answer, fresh_bytes, step_answer, step_bytes}
 use Rattle.rehearsal.specs.Input.{input_most, table_in, table_there, input_refusal, step_count, call_at}

@@ -27,7 +27,6 @@ use Rattle.printing.proofs.Answering.{room_given, none_given}
 use Rattle.hall.specs.Hung.{period_answer, asked_answer, hang_answer, hung}
 use Rattle.hall.proofs.Hanging.{of_rehearsal, period_next, name_first, none_applies}
 use Rattle.edges.specs.Tables as tables
-use Rattle.edges.specs.Cases.{case_r}
 use Rattle.guarantee.specs.Demand3.{after_calls}
 use Rattle.guarantee.specs.TotalsWorked.{input_r}
 use Rattle.guarantee.specs.SheetsWorked.{SheetsWorked}

@@ -1,6 +1,7 @@
 // From a period and a rehearsal to the sheet of that period's board: the work of the program `sheet`.
 // It uses rehearsal to judge and to run the steps, and printing to write the sheet; of the report nothing is kept.
 #![tactic(auto)]
+
 ghost use Rattle.std.specs.Prelude.{◌≡◌, ◌≤◌, length};
 ghost use Rattle.state.specs.Layout.{size};
 ghost use Rattle.text.specs.Wrote.{over, Wrote};

@@ -3,6 +3,7 @@
 // It uses ballot and valid to judge, bag to find the board, text to write, and sheets for what a sheet is; of engine
 // two laws, and no code.
 #![tactic(auto)]
+
 ghost use Rattle.std.specs.Prelude.{◌≡◌, ◌+◌, ◌<◌, ◌≤◌, length};
 ghost use Rattle.header.specs.Header.{items_of};
 ghost use Rattle.ballot.specs.Table.{refusal};

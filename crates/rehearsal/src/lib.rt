@@ -3,6 +3,7 @@
 // It uses header and pairs to find the table, ballot to judge it, clash for its rows, engine for the steps, and report
 // for the text.
 #![tactic(auto)]
+
 ghost use Rattle.std.specs.Prelude.{◌≡◌, ◌≤◌, length};
 ghost use Rattle.text.specs.Wrote.{over};
 ghost use Rattle.rehearsal.specs.Rehearsal.{reported, state_left, report_most};

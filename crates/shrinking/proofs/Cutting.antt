@@ -1,19 +1,18 @@
 -- The answer of an input that is cut down: by the input's own refusal, without steps, and with steps by the first trial, in
 -- which every step is kept.
-use Prim.Native.Nat.{ℕ, ◌+◌, ◌-◌, ◌≤◌, ◌<◌}
+use Prim.Native.Nat.{ℕ, ◌+◌}
 use native.Mathlib.Omega.{arith}
 use mathlib.Core.Bool.{true, false}
 use mathlib.Core.List.{List}
 use mathlib.Core.Path.{◌≡◌, sym, ap, ◌∙◌}
 use lib.Dec.{eqb}
-use lib.ListN.{length}
-use borrow.Author.Tests.{eq-eqb, ne_eqb, not-false}
-use Rattle.base.proofs.Truth.{split, or_l, or_r}
-use Rattle.rehearsal.specs.Input.{table_in, input_refusal, step_count}
+use borrow.Author.Tests.{eq-eqb, ne_eqb}
+use Rattle.base.proofs.Truth.{or_l, or_r}
+use Rattle.rehearsal.specs.Input.{input_refusal, step_count}
 use Rattle.dropping.specs.Kept.{every_step}
 use Rattle.trials.specs.Answers.{answer_in, steps_left}
-use Rattle.trials.specs.Flags.{kept, room}
-use Rattle.shrinking.specs.Shrunk.{clean, shrink_refusal, steps_most}
+use Rattle.trials.specs.Flags.{kept}
+use Rattle.shrinking.specs.Shrunk.{clean, shrink_refusal}
 use Rattle.shrinking.specs.Uncut.{Uncut}
 use Rattle.shrinking.specs.Cut.{Cut}
 

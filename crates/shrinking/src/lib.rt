@@ -3,6 +3,7 @@
 // is known only after steps have run.
 // It uses trials for the steps that are left, rehearsal to judge the input, and text and report for the output.
 #![tactic(auto)]
+
 ghost use Rattle.std.specs.Prelude.{◌≡◌, ◌≤◌, length};
 ghost use Rattle.text.specs.Wrote.{over};
 ghost use Rattle.shrinking.specs.Shrunk.{shrunk, shrunk_most};

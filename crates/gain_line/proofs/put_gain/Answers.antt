@@ -1,7 +1,6 @@
 -- The parts of the line, one after the other.
 use Rattle.text.proofs.Writing.{◌▷◌}
 use Rattle.gain_line.specs.Told.{gain_line}
-use borrow.Author.Rules.{rules}
 use Rattle.gain_line.proofs.put_gain.Goals as goal
 
 pub returns : goal.returns

@@ -1,5 +1,4 @@
 -- By `too_long` and `its_gain`.
-use borrow.Author.Rules.{rules}
 use Rattle.gain_line.proofs.Lines.{too_long, its_gain}
 use Rattle.gain_line.proofs.put_told.Goals as goal
 

@@ -1,5 +1,4 @@
 -- By `promised`.
-use borrow.Author.Rules.{rules}
 use Rattle.gain_line.proofs.Lines.{promised}
 use Rattle.gain_line.proofs.tell.Goals as goal
 

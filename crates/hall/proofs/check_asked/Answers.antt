@@ -1,6 +1,5 @@
 -- The whole input's length, then the rehearsal's own refusals.
 use mathlib.Core.Path.{ap, ◌∙◌}
-use borrow.Author.Rules.{rules}
 use Rattle.rehearsal.specs.Input.{input_refusal}
 use Rattle.hall.proofs.Hanging.{too_long, of_rehearsal}
 use Rattle.hall.proofs.check_asked.Goals as goal

@@ -1,6 +1,5 @@
 -- The part from the first byte on is all that follows it.
 use mathlib.Core.Path.{◌∙◌}
-use borrow.Author.Rules.{rules}
 use Rattle.hall.proofs.Hanging.{rest_of}
 use Rattle.hall.proofs.rehearsal_in.Goals as goal
 

@@ -1,5 +1,4 @@
 -- The steps lead to the last state, which is ready; then the sheet, or a refusal.
-use borrow.Author.Rules.{rules}
 use Rattle.hall.proofs.Hanging.{judged_then, shown_then}
 use Rattle.hall.proofs.run.Goals as goal
 

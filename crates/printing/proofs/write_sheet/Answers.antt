@@ -1,5 +1,4 @@
 -- The first refusal of the table or the state, or the sheet from both.
-use borrow.Author.Rules.{rules}
 use Rattle.engine.proofs.Calls.{room-read}
 use Rattle.printing.proofs.Answering.{table-refused, state_refused, both_good}
 use mathlib.Core.Path.{ap}

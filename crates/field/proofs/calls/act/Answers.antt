@@ -1,4 +1,3 @@
-use borrow.Author.Tests.{not-true, not-false}
 use Rattle.field.proofs.Called.{room-read, ready_read, bad_table, state_refused, output_refused, acted_so, act_parts}
 use borrow.Author.Rules.{rules}
 use Rattle.field.proofs.calls.act.Goals as goal

@@ -1,6 +1,4 @@
-use borrow.Author.Tests.{not-true, not-false}
 use Rattle.field.proofs.Called.{bring_table, bring_state, room-read, items-read, ready_read, brought_so}
-use borrow.Author.Rules.{rules}
 use Rattle.field.proofs.calls.bring.Goals as goal
 
 pub returns-then-refusal-ne0 : goal.returns-then-refusal-ne0

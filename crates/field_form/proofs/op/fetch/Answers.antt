@@ -1,5 +1,4 @@
 use Rattle.field_form.proofs.Named.{not-formed, not_mine, mine}
-use borrow.Author.Rules.{rules}
 use Rattle.field_form.proofs.op.fetch.Goals as goal
 
 pub returns-then-not-ok : goal.returns-then-not-ok

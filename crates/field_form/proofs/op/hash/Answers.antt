@@ -1,5 +1,4 @@
 use Rattle.field_form.proofs.Named.{none-formed, none_mine, sent_mine}
-use borrow.Author.Rules.{rules}
 use Rattle.field_form.proofs.op.hash.Goals as goal
 
 pub returns-then-not-ok : goal.returns-then-not-ok

@@ -1,5 +1,4 @@
 use Rattle.field_form.proofs.Readings.{here, skip, no_op}
-use borrow.Author.Rules.{rules}
 use Rattle.field_form.proofs.read.fetch_op.Goals as goal
 
 pub returns-then-op-eq8 : goal.returns-then-op-eq8

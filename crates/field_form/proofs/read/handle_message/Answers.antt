@@ -1,5 +1,4 @@
 use Rattle.field_form.proofs.Readings.{thirteen, fetch_long, other_message}
-use borrow.Author.Rules.{rules}
 use Rattle.field_form.proofs.read.handle_message.Goals as goal
 
 pub returns-then-message-eq13 : goal.returns-then-message-eq13

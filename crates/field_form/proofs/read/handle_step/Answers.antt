@@ -1,5 +1,4 @@
 use Rattle.field_form.proofs.Readings.{step_thirteen, other_step}
-use borrow.Author.Rules.{rules}
 use Rattle.field_form.proofs.read.handle_step.Goals as goal
 
 pub returns-then-step-ne13 : goal.returns-then-step-ne13

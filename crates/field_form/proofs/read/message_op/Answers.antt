@@ -1,5 +1,4 @@
 use Rattle.field_form.proofs.Readings.{by-op}
-use borrow.Author.Rules.{rules}
 use Rattle.field_form.proofs.read.message_op.Goals as goal
 
 pub returns-then-op-eq2 : goal.returns-then-op-eq2

@@ -1,5 +1,4 @@
 use Rattle.field_form.proofs.Readings.{by_step}
-use borrow.Author.Rules.{rules}
 use Rattle.field_form.proofs.read.step_op.Goals as goal
 
 pub returns-then-op-eq3 : goal.returns-then-op-eq3

@@ -1,4 +1,3 @@
-use borrow.Author.Rules.{rules}
 use Rattle.field_judges.proofs.judge.few_heard_own.Goals as goal
 
 pub returns : goal.returns

@@ -1,7 +1,4 @@
-use Prim.Native.Nat.{◌≤◌}
-use mathlib.Core.Path.{◌≡◌, refl}
-use lib.ListN.{length}
-use Rattle.field_steps.specs.High.{stored_high}
+use mathlib.Core.Path.{refl}
 use Rattle.field_steps.proofs.High.{high_more, high_end}
 use borrow.Author.Rules.{rules}
 use Rattle.field_steps.proofs.send.store_high.Goals as goal

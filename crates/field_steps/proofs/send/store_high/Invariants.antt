@@ -1,9 +1,7 @@
 use Prim.Native.Nat.{◌≤◌}
-use mathlib.Core.Path.{◌≡◌, refl}
+use mathlib.Core.Path.{◌≡◌}
 use lib.ListN.{length}
 use Rattle.field_steps.specs.High.{stored_high}
-use Rattle.field_steps.proofs.High.{high_more, high_end}
-use borrow.Author.Rules.{rules}
 use Rattle.field_steps.proofs.send.store_high.Given as goal
 
 abbrev pub invariant-loop-i : goal.invariant-loop-i

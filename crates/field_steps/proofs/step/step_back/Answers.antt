@@ -1,7 +1,6 @@
 use Rattle.field_guard.proofs.Judged.{asked}
 use Rattle.field_steps.proofs.Whole.{unsent, sent}
 use Rattle.field_steps.proofs.Did.{back_fits, did_back, sent_back, own_read}
-use borrow.Author.Rules.{rules}
 use Rattle.field_steps.proofs.step.step_back.Goals as goal
 
 pub to_back-c-requires : goal.to_back-c-requires

@@ -1,6 +1,5 @@
 use Rattle.field_steps.proofs.Whole.{unsent, sent}
 use Rattle.field_steps.proofs.Did.{did_hash, sent_hash}
-use borrow.Author.Rules.{rules}
 use Rattle.field_steps.proofs.step.step_hash.Goals as goal
 
 pub returns-then-a-ne0 : goal.returns-then-a-ne0

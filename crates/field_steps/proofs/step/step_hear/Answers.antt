@@ -1,7 +1,6 @@
 use Rattle.field_guard.proofs.Judged.{asked}
 use Rattle.field_steps.proofs.Whole.{refused, handled}
 use Rattle.field_steps.proofs.Did.{may_hear, did_hear}
-use borrow.Author.Rules.{rules}
 use Rattle.field_steps.proofs.step.step_hear.Goals as goal
 
 pub returns-then-a-ne0 : goal.returns-then-a-ne0

@@ -1,7 +1,6 @@
 use Rattle.field_guard.proofs.Judged.{asked}
 use Rattle.field_steps.proofs.Whole.{unsent, sent}
 use Rattle.field_steps.proofs.Did.{may_share, did_share, sent_share}
-use borrow.Author.Rules.{rules}
 use Rattle.field_steps.proofs.step.step_share.Goals as goal
 
 pub returns-then-a-ne0 : goal.returns-then-a-ne0

@@ -1,12 +1,6 @@
 -- The entries passed give the period nothing: what is left gives it what the whole bag does.
-use Prim.Native.Nat.{◌≤◌, ◌-◌}
 use native.Mathlib.Omega.{arith}
-use mathlib.Core.Path.{◌≡◌, refl}
-use lib.ListN.{drop}
-use borrow.Author.Rules.{rules}
-use Rattle.rules.specs.Bag.{boards_in}
-use Rattle.state.specs.Contents.{bag_on}
-use Rattle.printing.specs.Board.{boards_on, published}
+use mathlib.Core.Path.{refl}
 use Rattle.printing.proofs.Finding.{found_at, one_passed, all_passed}
 use Rattle.printing.proofs.board.board_of.Goals as goal
 

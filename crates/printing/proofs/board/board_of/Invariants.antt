@@ -1,12 +1,9 @@
 use Prim.Native.Nat.{◌≤◌, ◌-◌}
-use native.Mathlib.Omega.{arith}
-use mathlib.Core.Path.{◌≡◌, refl}
+use mathlib.Core.Path.{◌≡◌}
 use lib.ListN.{drop}
-use borrow.Author.Rules.{rules}
 use Rattle.rules.specs.Bag.{boards_in}
 use Rattle.state.specs.Contents.{bag_on}
 use Rattle.printing.specs.Board.{boards_on, published}
-use Rattle.printing.proofs.Finding.{found_at, one_passed, all_passed}
 use Rattle.printing.proofs.board.board_of.Given as goal
 
 abbrev pub invariant-loop-e : goal.invariant-loop-e

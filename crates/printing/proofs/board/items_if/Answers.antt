@@ -1,5 +1,4 @@
 -- By the test.
-use borrow.Author.Rules.{rules}
 use Rattle.printing.proofs.board.items_if.Goals as goal
 
 pub returns-then-there : goal.returns-then-there

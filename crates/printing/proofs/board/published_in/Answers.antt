@@ -1,5 +1,4 @@
 -- A board of the period, and nothing else.
-use borrow.Author.Rules.{rules}
 use Rattle.printing.proofs.Finding.{of_hash, of_backing, of-board}
 use Rattle.printing.proofs.board.published_in.Goals as goal
 

@@ -1,8 +1,5 @@
 -- The items passed are measured.
-use Prim.Native.Nat.{◌≤◌, ◌-◌}
 use native.Mathlib.Omega.{arith}
-use borrow.Author.Rules.{rules}
-use Rattle.printing.specs.Measured.{Measured}
 use Rattle.printing.proofs.Measuring.{measured_none, measured_all}
 use Rattle.printing.proofs.parts.measure.Goals as goal
 

@@ -1,5 +1,4 @@
 -- One after the other.
-use borrow.Author.Rules.{rules}
 use Rattle.text.proofs.Writing.{◌▷◌}
 use Rattle.printing.proofs.parts.put_pair.Goals as goal
 

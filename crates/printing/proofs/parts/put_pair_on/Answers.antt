@@ -1,5 +1,4 @@
 -- The pair where the board has the item, and else nothing.
-use borrow.Author.Rules.{rules}
 use Rattle.printing.proofs.Measuring.{pair_written, pair_left_out}
 use Rattle.printing.proofs.parts.put_pair_on.Goals as goal
 

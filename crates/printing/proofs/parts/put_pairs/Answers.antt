@@ -1,11 +1,5 @@
 -- The pairs of the items passed are written, and their texts measured.
-use Prim.Native.Nat.{◌≤◌, ◌-◌}
 use native.Mathlib.Omega.{arith}
-use borrow.Author.Rules.{rules}
-use Rattle.text.specs.Wrote.{Wrote}
-use Rattle.sheets.specs.Made.{pairs_from}
-use Rattle.printing.specs.Board.{board_texts}
-use Rattle.printing.specs.Measured.{Measured}
 use Rattle.printing.proofs.Measuring.{measured_none, pairs-none, pairs_next, pairs-all}
 use Rattle.printing.proofs.parts.put_pairs.Goals as goal
 

@@ -1,5 +1,4 @@
 -- The text where the board has the item, and else nothing.
-use borrow.Author.Rules.{rules}
 use Rattle.printing.proofs.Measuring.{text_written, text_left_out}
 use Rattle.printing.proofs.parts.put_text_on.Goals as goal
 

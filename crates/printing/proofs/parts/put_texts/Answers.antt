@@ -1,9 +1,5 @@
 -- The texts of the items passed are written.
-use Prim.Native.Nat.{◌≤◌, ◌-◌}
 use borrow.Author.Rules.{rules}
-use Rattle.text.specs.Wrote.{Wrote}
-use Rattle.sheets.specs.Made.{joined}
-use Rattle.printing.specs.Board.{board_texts}
 use Rattle.printing.proofs.Measuring.{texts_none, texts_next, texts_all}
 use Rattle.printing.proofs.parts.put_texts.Goals as goal
 

@@ -1,5 +1,4 @@
 -- The board has the item, or not.
-use borrow.Author.Rules.{rules}
 use Rattle.printing.proofs.Measuring.{measured_skip, measured_more}
 use Rattle.printing.proofs.parts.with_item.Goals as goal
 

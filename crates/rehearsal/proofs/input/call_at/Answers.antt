@@ -1,6 +1,5 @@
 -- The part of the input that starts after the table and the steps before.
 use Rattle.rehearsal.specs.Input.{call_at}
-use borrow.Author.Rules.{rules}
 use Rattle.rehearsal.proofs.input.call_at.Goals as goal
 
 pub returns : goal.returns

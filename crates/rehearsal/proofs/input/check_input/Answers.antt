@@ -5,7 +5,6 @@ use borrow.Author.Tests.{lt-ltb, le-ltb}
 use Rattle.base.proofs.Refusals.{stop, pass}
 use Rattle.ballot.specs.Table.{refusal}
 use Rattle.rehearsal.specs.Input.{input_refusal}
-use borrow.Author.Rules.{rules}
 use Rattle.rehearsal.proofs.input.check_input.Goals as goal
 
 pub returns-then-input-gt-INPUT_MOST : goal.returns-then-input-gt-INPUT_MOST

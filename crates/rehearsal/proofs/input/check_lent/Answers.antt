@@ -1,5 +1,4 @@
 -- The input's refusal first, then the length's.
-use borrow.Author.Rules.{rules}
 use Rattle.rehearsal.proofs.Taking.{input_refused, length-refused, none-refused}
 use Rattle.rehearsal.proofs.input.check_lent.Goals as goal
 

@@ -1,6 +1,5 @@
 -- What is left after the table, by the bytes of a step.
 use Rattle.rehearsal.specs.Input.{step_count}
-use borrow.Author.Rules.{rules}
 use Rattle.rehearsal.proofs.input.step_count.Goals as goal
 
 pub returns : goal.returns

@@ -1,5 +1,4 @@
 -- The last end of the header's own pairs.
-use borrow.Author.Rules.{rules}
 use Rattle.rehearsal.proofs.input.table_end.Goals as goal
 
 pub returns : goal.returns

@@ -1,6 +1,5 @@
 -- The part of the input up to there.
 use Rattle.rehearsal.specs.Input.{table_in}
-use borrow.Author.Rules.{rules}
 use Rattle.rehearsal.proofs.input.table_in.Goals as goal
 
 pub returns : goal.returns

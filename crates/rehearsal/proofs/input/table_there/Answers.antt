@@ -1,7 +1,6 @@
 -- The pairs are judged first, and then the end.
 use Rattle.base.proofs.Returns.{fails, holds}
 use Rattle.rehearsal.specs.Input.{table_there}
-use borrow.Author.Rules.{rules}
 use mathlib.Core.Path.{ap}
 use mathlib.Core.Bool.{not}
 use Rattle.rehearsal.proofs.input.table_there.Goals as goal

@@ -1,6 +1,5 @@
 -- The table and its clashes are read, and the state is cleared: what `tell` asks.
 use Rattle.rehearsal.proofs.Playing.{cleared, made}
-use borrow.Author.Rules.{rules}
 use Rattle.rehearsal.proofs.run.play.Goals as goal
 
 pub tell-requires : goal.tell-requires

@@ -1,7 +1,5 @@
 -- The steps passed were run, and their lines are written.
-use Prim.Native.Nat.{◌≤◌, ◌-◌}
 use borrow.Author.Rules.{rules}
-use Rattle.rehearsal.specs.Running.{Ran}
 use Rattle.rehearsal.proofs.States.{few_steps, same_long, none_ran, more_ran, all_ran}
 use Rattle.rehearsal.proofs.run.run.Goals as goal
 

@@ -1,7 +1,5 @@
 use Prim.Native.Nat.{◌≤◌, ◌-◌}
-use borrow.Author.Rules.{rules}
 use Rattle.rehearsal.specs.Running.{Ran}
-use Rattle.rehearsal.proofs.States.{few_steps, same_long, none_ran, more_ran, all_ran}
 use Rattle.rehearsal.proofs.run.run.Given as goal
 
 abbrev pub invariant-loop-k : goal.invariant-loop-k

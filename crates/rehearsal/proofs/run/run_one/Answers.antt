@@ -1,6 +1,5 @@
 -- The step on the state that the steps before it left, then its line.
 use Rattle.rehearsal.proofs.States.{ready_now, one_ran}
-use borrow.Author.Rules.{rules}
 use Rattle.rehearsal.proofs.run.run_one.Goals as goal
 
 pub run_step-answer-requires : goal.run_step-answer-requires

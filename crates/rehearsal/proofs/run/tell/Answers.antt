@@ -1,6 +1,5 @@
 -- The first line, the steps and what they leave, by `whole_report`.
 use Rattle.rehearsal.proofs.Playing.{showable, whole_report}
-use borrow.Author.Rules.{rules}
 use Rattle.rehearsal.proofs.run.tell.Goals as goal
 
 pub put_state-requires : goal.put_state-requires

@@ -1,5 +1,4 @@
 -- No steps, and 18; or the table and its clashes are read, and its steps are cut down.
-use borrow.Author.Rules.{rules}
 use Rattle.rehearsal.proofs.Taking.{taken}
 use Rattle.shrinking.proofs.Printing.{no_steps, uncut}
 use Rattle.trials.proofs.Running.{fixed}

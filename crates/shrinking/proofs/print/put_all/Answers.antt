@@ -1,10 +1,6 @@
 -- The lines of the steps passed are written.
-use Prim.Native.Nat.{◌≤◌, ◌-◌}
 use borrow.Author.Rules.{rules}
-use Rattle.text.specs.Wrote.{Wrote, each}
 use Rattle.text.proofs.Writing.{each_none, each_more, each_all}
-use Rattle.trials.specs.Flags.{kept}
-use Rattle.shrinking.specs.Shrunk.{kept_line}
 use Rattle.shrinking.proofs.print.put_all.Goals as goal
 
 pub loop-k-init : goal.loop-k-init

@@ -1,5 +1,4 @@
 -- The line where the step is kept.
-use borrow.Author.Rules.{rules}
 use Rattle.text.proofs.Writing.{kept, left_out}
 use Rattle.shrinking.specs.Shrunk.{kept_line}
 use Rattle.shrinking.proofs.print.put_kept.Goals as goal

@@ -1,5 +1,4 @@
 -- The number, and the end of the line.
-use borrow.Author.Rules.{rules}
 use Rattle.text.proofs.Writing.{◌▷◌}
 use Rattle.shrinking.specs.Shrunk.{number_line}
 use Rattle.shrinking.proofs.print.put_number.Goals as goal

@@ -1,5 +1,4 @@
 -- One flag is no longer 0.
-use borrow.Author.Rules.{rules}
 use Rattle.trials.proofs.Flagged.{flag_off}
 use Rattle.trials.proofs.flags.drop_step.Goals as goal
 

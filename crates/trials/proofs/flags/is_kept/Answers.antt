@@ -1,5 +1,4 @@
 -- The flag is 0.
-use borrow.Author.Rules.{rules}
 use Rattle.trials.proofs.Flagged.{flag_read}
 use Rattle.trials.proofs.flags.is_kept.Goals as goal
 

@@ -1,5 +1,4 @@
 -- One flag is 0 again.
-use borrow.Author.Rules.{rules}
 use Rattle.trials.proofs.Flagged.{flag_on}
 use Rattle.trials.proofs.flags.put_back.Goals as goal
 

@@ -1,9 +1,8 @@
 use Prim.Native.Nat.{◌≤◌}
 use mathlib.Core.Path.{◌≡◌}
 use lib.ListN.{length}
-use borrow.Author.Rules.{rules}
 use Rattle.state.specs.Layout.{size}
-use Rattle.dropping.proofs.Passing.{InPass, pass_none, pass_more, pass_all}
+use Rattle.dropping.proofs.Passing.{InPass}
 use Rattle.trials.specs.Flags.{kept, room}
 use Rattle.trials.specs.Answers.{answer_in}
 use Rattle.trials.proofs.pass.pass.Given as goal

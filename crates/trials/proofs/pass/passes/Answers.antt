@@ -1,11 +1,6 @@
 -- Passes lead from every step to what is kept, and end where one drops none.
-use mathlib.Core.Path.{◌≡◌}
-use lib.ListN.{length}
 use borrow.Author.Rules.{rules}
-use Rattle.state.specs.Layout.{size}
-use Rattle.dropping.proofs.Passing.{Between, between_none, between_more, between-all, to_do, less_to_do}
-use Rattle.trials.specs.Flags.{kept, room}
-use Rattle.trials.specs.Answers.{answer_in}
+use Rattle.dropping.proofs.Passing.{between_none, between_more, between-all, less_to_do}
 use Rattle.trials.proofs.Running.{steps_left_lem}
 use Rattle.trials.proofs.pass.passes.Goals as goal
 

@@ -1,5 +1,4 @@
 -- The step is not there, is dropped, or is put back.
-use borrow.Author.Rules.{rules}
 use Rattle.dropping.proofs.Trying.{not_there, was_dropped, was_put_back}
 use mathlib.Core.Path.{ap}
 use mathlib.Core.Bool.{not}

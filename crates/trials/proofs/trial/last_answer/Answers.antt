@@ -1,5 +1,4 @@
 -- The last step, on the state that the kept ones lead to.
-use borrow.Author.Rules.{rules}
 use Rattle.trials.proofs.Running.{table_ends, table_few, can_run, last_few, last_ran}
 use Rattle.trials.proofs.trial.last_answer.Goals as goal
 

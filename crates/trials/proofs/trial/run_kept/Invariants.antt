@@ -1,8 +1,6 @@
 use Prim.Native.Nat.{◌≤◌, ◌-◌}
-use borrow.Author.Rules.{rules}
 use Rattle.trials.specs.Flags.{kept}
 use Rattle.trials.specs.Running.{Stands}
-use Rattle.trials.proofs.Running.{step_few, same_long, none_ran, all_ran}
 use Rattle.trials.proofs.trial.run_kept.Given as goal
 
 abbrev pub invariant-loop-k : goal.invariant-loop-k
