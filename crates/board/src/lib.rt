@@ -1,5 +1,7 @@
 // The engine for C, whose slices are a pointer and a length: `include/board.h` declares these functions.
 // It uses ballot, engine, rehearsal, shrinking, gains, printing and sheets, and adds nothing to what they promise.
+#![tactic(auto)]
+
 ghost use Rattle.std.specs.Prelude.{◌≤◌, ◌≡◌, length};
 ghost use Rattle.ballot.specs.Table.{refusal};
 ghost use Rattle.state.specs.Layout.{size};
