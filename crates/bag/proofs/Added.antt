@@ -15,10 +15,12 @@ use Rattle.bits.proofs.Number.{length-stored, bytes-stored, stored-out, num-stor
 use Rattle.rules.specs.declared.Entry.{Entry}
 use Rattle.state.specs.Layout.{entries, count_at, bag_at, entry_size, entry_start, signer_in, period_in, board_in, count_bytes, item_bytes}
 use Rattle.rules.specs.Bag.{kind_of, signer_of, period_of, board_of}
-use Rattle.state.specs.Entries.{EntryFits}
+use Rattle.state.specs.Entries.{FieldsFit, EntryFits}
 use Rattle.base.specs.Tab.{tab}
 use Rattle.state.specs.Contents.{count, entry_at, contents, Settled, Canon, Holds, with_entry}
-use Rattle.bag.specs.Bag.{written, entered, appended}
+use Rattle.bag.specs.declared.Four.{Four}
+use Rattle.bag.specs.Bag.{byte_of, four_of, written, entered, appended}
+use Rattle.bag.proofs.Search.{byte_kind}
 use Rattle.base.proofs.Tab.{tab_ext, tab_more}
 use Rattle.state.proofs.Entries.{entry_of_lem, kind_lt}
 use Rattle.state.proofs.Encode.{bag_length}
@@ -177,22 +179,26 @@ module _ (s : List ℕ) (x : Entry) (c : Canon s) (room : count s < entries) (h 
             };
       }
 
--- the writing of an entry of which the kind is known
-pub enter_is : (s t : List ℕ) (o : ℕ) (x y : Entry) → x ≡ y
-    → (t ≡ written s o (kind_of y) (signer_of y) (period_of y) (board_of y)) × EntryFits y
+-- the writing of an entry's four numbers
+pub enter_is : (s t : List ℕ) (o : ℕ) (x : Entry) (f : Four) → f ≡ four_of x
+    → (t ≡ written s o (byte_of f.kind) f.signer f.period f.board) × FieldsFit f.signer f.period f.board
     → (t ≡ entered s o x) × EntryFits x
 unfolding entered
-enter_is s t o x y q h = subst (λ (z : Entry). (t ≡ written s o (kind_of z) (signer_of z) (period_of z) (board_of z)) × EntryFits z) (sym q) h
+enter_is s t o x f q h =
+    let w = subst (λ (g : Four). (t ≡ written s o (byte_of g.kind) g.signer g.period g.board) × FieldsFit g.signer g.period g.board) q h in
+    (w.0 ∙ ap (λ (k : ℕ). written s o k (signer_of x) (period_of x) (board_of x)) (byte_kind x), w.1)
 
 -- what the writing and the counting come to
-pub append_done : (s u t : List ℕ) (x : Entry) (n : ℕ) → Canon s → length (contents s).bag < entries → n ≡ length (contents s).bag
-    → (u ≡ entered s (entry_start n) x) × EntryFits x → t ≡ stored count_bytes u count_at (n + 1) → Holds t (with_entry x (contents s))
+pub append_done : (s u t : List ℕ) (x : Entry) (n o : ℕ) → Canon s → length (contents s).bag < entries → n ≡ length (contents s).bag
+    → o ≡ entry_start n → (u ≡ entered s o x) × EntryFits x → t ≡ stored count_bytes u count_at (n + 1)
+    → Holds t (with_entry x (contents s))
 unfolding appended
-append_done s u t x n c room e p q =
+append_done s u t x n o c room e a p q =
     subst (λ (r : List ℕ). Holds r (with_entry x (contents s))) (sym whole) (append_holds s x c (omega (arith, bag_length s)) p.1)
   where
     m : n ≡ count s
     m = e ∙ bag_length s
 
     whole : t ≡ stored count_bytes (entered s (entry_start (count s)) x) count_at (count s + 1)
-    whole = q ∙ ap₂ (λ (a : List ℕ) (k : ℕ). stored count_bytes a count_at (k + 1)) (p.0 ∙ ap (λ (k : ℕ). entered s (entry_start k) x) m) m
+    whole = q ∙ ap₂ (λ (a : List ℕ) (k : ℕ). stored count_bytes a count_at (k + 1))
+        (p.0 ∙ ap (λ (k : ℕ). entered s k x) (a ∙ ap entry_start m)) m

@@ -1,26 +1,28 @@
 -- Entries read and looked for: what the bytes of the bag say of an entry, there or not.
+use Rattle.std.specs.Prelude.{Option, Some, None, cond}
 use Prim.Native.Nat.{ℕ, ◌+◌, ◌<◌, ◌≤◌}
 use native.Mathlib.Decide.{dec_lt}
-use native.Mathlib.Nat.{not-suc-le-zero}
 use native.Mathlib.Omega.{arith}
 use mathlib.Core.Bool.{Bool, true, false, ◌&&◌, and-true}
 use mathlib.Core.List.{List}
 use mathlib.Core.Path.{◌≡◌, refl, sym, ap, ap₂, subst, ◌∙◌}
 use lib.Dec.{eqb}
 use lib.ListN.{length}
-use borrow.Author.Count.{below_more}
 use Rattle.base.specs.Bytes.{byte_at}
-use Rattle.base.proofs.Chain.{differ, agree}
-use Rattle.base.proofs.Truth.{split, is_false, eqb_sym}
+use Rattle.base.specs.Below.{any}
+use Rattle.base.proofs.Below.{any_found, any_at}
+use Rattle.base.proofs.Truth.{iff, eqb_sym}
 use Rattle.bits.specs.Number.{num}
 use Rattle.bits.proofs.Number.{num-zero}
 use Rattle.rules.specs.declared.Entry.{Entry}
+use Rattle.rules.specs.declared.Entry.TheVariants.{Hash, Backing, Board}
 use Rattle.state.specs.Layout.{entries, item_bytes, signer_in, period_in, board_in, entry_size, entry_start}
 use Rattle.rules.specs.Bag.{kind_of, signer_of, period_of, board_of, no_entry, entry_at as nth, same_entry, is_in}
 use Rattle.rules.proofs.Bag.{same_self, eq_of_same, in_at, at_in}
 use Rattle.state.specs.Entries.{entry_of}
 use Rattle.state.specs.Contents.{count, entry_at, contents, Canon}
-use Rattle.bag.specs.Bag.{signer_with, written_signer, is_written}
+use Rattle.bag.specs.declared.Four.{Four}
+use Rattle.bag.specs.Bag.{byte_of, kind_in, four_of, signer_with, signer_found, written_signer, is_written}
 use Rattle.base.proofs.Tab.{get_or-tab-out}
 use Rattle.state.proofs.Encode.{bag_length, entry_nth, entry_period, entry_board}
 
@@ -47,27 +49,18 @@ entry_read s e c = go (dec_lt e (count s))
     go (yes l) = sym (entry_nth s e l)
     go (no l) = zero_entry s e (λ i q. c.rest i (omega arith)) ∙ sym (nth_none s e (omega arith))
 
-pub read_entry : (s : List ℕ) (e board : ℕ) (x : Entry) → Canon s → board ≡ num item_bytes s (entry_start e + board_in)
-    → x ≡ entry_of (byte_at s (entry_start e)) (byte_at s (entry_start e + signer_in)) (byte_at s (entry_start e + period_in)) board
+pub read_entry : (s : List ℕ) (e o board : ℕ) (x : Entry) → Canon s → o ≡ entry_start e → board ≡ num item_bytes s (o + board_in)
+    → x ≡ entry_of (byte_at s o) (byte_at s (o + signer_in)) (byte_at s (o + period_in)) board
     → x ≡ nth (contents s).bag e
 unfolding entry_at
-read_entry s e board x c b q =
+read_entry s e o board x c at b q =
     q
-    ∙ ap (entry_of (byte_at s (entry_start e)) (byte_at s (entry_start e + signer_in)) (byte_at s (entry_start e + period_in))) b
+    ∙ ap₂ (λ (a y : ℕ). entry_of (byte_at s a) (byte_at s (a + signer_in)) (byte_at s (a + period_in)) y) at
+    (b ∙ ap (λ (a : ℕ). num item_bytes s (a + board_in)) at)
     ∙ entry_read s e c
 
 pub entry_past : (s : List ℕ) (e : ℕ) → Canon s → entries ≤ e → no_entry ≡ nth (contents s).bag e
 entry_past s e c l = sym (nth_none s e (omega (arith, c.counted)))
-
--- a number that was read, at the head of a row of tests
-
-pub read_differs : (x b y : ℕ) (rest : Bool) → x ≡ b → (x ≡ y → ⊥) → false ≡ (eqb b y && rest)
-read_differs x b y rest p n = differ b y rest (λ e. n (p ∙ e))
-
-pub read_agrees : (x b y : ℕ) (rest v : Bool) → x ≡ b → x ≡ y → v ≡ rest → v ≡ (eqb b y && rest)
-read_agrees x b y rest v p e = agree b y rest v (sym p ∙ e)
-
-pub ruleset by-fields = (read_differs, read_agrees, differ, agree)
 
 -- the four tests on an entry's bytes, in the order in which they are made, are the test for the same entry
 
@@ -99,11 +92,20 @@ entry_test s e x c l =
     )
     (swapped (eqb (kind_of x) (kind_of y)) (eqb (signer_of x) (signer_of y)) (eqb (period_of x) (period_of y)) (eqb (board_of x) (board_of y)))
 
-pub entry_is : (s : List ℕ) (e : ℕ) (x y : Entry) (r : Bool) → Canon s → e < length (contents s).bag → x ≡ y
-    → r ≡ is_written s (entry_start e) (kind_of y) (signer_of y) (period_of y) (board_of y) → r ≡ same_entry x (nth (contents s).bag e)
-entry_is s e x y r c l q h =
+pub byte_kind : (x : Entry) → byte_of (kind_in x) ≡ kind_of x
+byte_kind (Hash k p B) = refl
+byte_kind (Backing k p B) = refl
+byte_kind (Board p B) = refl
+
+pub entry_is : (s : List ℕ) (e o : ℕ) (x : Entry) (f : Four) (r : Bool) → Canon s → e < length (contents s).bag → o ≡ entry_start e
+    → f ≡ four_of x → r ≡ is_written s o (byte_of f.kind) f.signer f.period f.board → r ≡ same_entry x (nth (contents s).bag e)
+entry_is s e o x f r c l at q h =
     let m : e < count s = omega (arith, bag_length s) in
-    h ∙ entry_test s e y c m ∙ ap₂ same_entry (sym q) (sym (entry_nth s e m))
+    h
+    ∙ ap₂ (λ (a : ℕ) (g : Four). is_written s a (byte_of g.kind) g.signer g.period g.board) at q
+    ∙ ap (λ (k : ℕ). is_written s (entry_start e) k (signer_of x) (period_of x) (board_of x)) (byte_kind x)
+    ∙ entry_test s e x c m
+    ∙ ap (same_entry x) (sym (entry_nth s e m))
 
 -- the entries of the bag are at most 256, and the bytes of each are inside
 
@@ -114,31 +116,42 @@ pub entry_inside : (s : List ℕ) (e : ℕ) → Canon s → e < length (contents
 entry_inside s e c l = omega (arith, bag_length s, c.counted, c.long)
 
 -- the signer of an entry of the bag is the one in its bytes
-pub signer_is : (s : List ℕ) (e kind p B r : ℕ) → Canon s → e < length (contents s).bag → r ≡ written_signer s (entry_start e) kind p B
-    → r ≡ signer_with kind p B (nth (contents s).bag e)
-unfolding signer_with written_signer
-signer_is s e kind p B r c l h =
+pub signer_is : (s : List ℕ) (e o kind p B : ℕ) (r : Option ℕ) → Canon s → e < length (contents s).bag → o ≡ entry_start e
+    → r ≡ written_signer s o kind p B → r ≡ signer_found kind p B (nth (contents s).bag e)
+unfolding signer_found written_signer
+signer_is s e o kind p B r c l at h =
     let m : e < count s = omega (arith, bag_length s) in
-    h ∙ rw (entry_nth s e m, (c.settled e m).signer, (c.settled e m).kind, ← entry_board s e, ← entry_period s e)
+    h ∙ rw (at, entry_nth s e m, (c.settled e m).signer, (c.settled e m).kind, ← entry_board s e, ← entry_period s e)
 
--- the search: none of the first e entries is x
+-- the signer that was found is the one of `signer_with`, and where none was found that is 0
 
-pub record Missed (x : Entry) (bag : List Entry) (e : ℕ) : Type 0 where
-  pub other : (k : ℕ) → k < e → same_entry x (nth bag k) ≡ false
+abbrev or_zero : Option ℕ → ℕ
+or_zero (Some k) = k
+or_zero None = 0
 
-pub missed_none : (x : Entry) (bag : List Entry) → Missed x bag 0
-missed_none x bag = record { other = λ k q. absurd (not-suc-le-zero q) }
+or_zero-cond : (b : Bool) (k : ℕ) → or_zero (cond b (Some k) None) ≡ cond b k 0
+or_zero-cond true k = refl
+or_zero-cond false k = refl
 
--- entry e was compared with x
-module _ (x : Entry) (bag : List Entry) (e : ℕ) {r : Bool} (q : r ≡ same_entry x (nth bag e)) where
-  pub missed_more : Missed x bag e → r ≡ false → Missed x bag (e + 1)
-  missed_more m t = record { other = below_more _ _ m.other (sym q ∙ t) }
+module _ (kind p B : ℕ) (x : Entry) {r : Option ℕ} (q : r ≡ signer_found kind p B x) where
+  signer_or_zero : or_zero r ≡ signer_with kind p B x
+  unfolding signer_found signer_with
+  signer_or_zero = ap or_zero q ∙ or_zero-cond (eqb (period_of x) p && (eqb (kind_of x) kind && eqb (board_of x) B)) (signer_of x)
 
-  pub found : {n : ℕ} → r ≡ true → n ≡ length bag → e < n → true ≡ is_in x bag
-  found t c l = sym (at_in x bag e (omega arith) (sym (eq_of_same x (nth bag e) (sym q ∙ t))))
+  pub some_signer : {k : ℕ} → r ≡ Some k → k ≡ signer_with kind p B x
+  some_signer e = sym (ap or_zero e) ∙ signer_or_zero
 
-pub not_found : (x : Entry) (bag : List Entry) {e n : ℕ} → Missed x bag e → n ≡ length bag → n ≤ e → false ≡ is_in x bag
-not_found x bag m c l =
-    sym
-    (is_false (is_in x bag) (λ h. let w = in_at x bag h in split (subst (λ (z : Entry). same_entry x z ≡ true) (sym w.2) (same_self x))
-    (m.other w.0 (omega (arith, w.1)))))
+  pub no_signer : r ≡ None → 0 ≡ signer_with kind p B x
+  no_signer e = sym (ap or_zero e) ∙ signer_or_zero
+
+-- the search: an entry of the bag is x, as the tests of its entries say
+pub in_bag : (x : Entry) (bag : List Entry) → any (length bag) (λ e. same_entry x (nth bag e)) ≡ is_in x bag
+in_bag x bag = iff _ _ to from
+  where
+    to : any (length bag) (λ e. same_entry x (nth bag e)) ≡ true → is_in x bag ≡ true
+    to t = let f = any_found (length bag) (λ e. same_entry x (nth bag e)) t in
+        at_in x bag f.0 f.1 (sym (eq_of_same x (nth bag f.0) f.2))
+
+    from : is_in x bag ≡ true → any (length bag) (λ e. same_entry x (nth bag e)) ≡ true
+    from t = let w = in_at x bag t in
+        any_at (λ e. same_entry x (nth bag e)) w.0 (length bag) w.1 (subst (λ (z : Entry). same_entry x z ≡ true) (sym w.2) (same_self x))

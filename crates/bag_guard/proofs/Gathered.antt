@@ -6,6 +6,8 @@ use mathlib.Core.Bool.{Bool, true, false, cond, not, ◌&&◌, ◌||◌}
 use mathlib.Core.List.{List}
 use mathlib.Core.Path.{◌≡◌, refl, sym, ap, ap₂, subst, ◌∙◌}
 use mathlib.Core.Logic.{◌⊎◌, inl, inr}
+use Rattle.std.specs.Bool.{then_some}
+use Rattle.std.specs.Prelude.{Option, Some, None}
 use lib.Bits.{bit_or, or_lt}
 use lib.Dec.{eqb}
 use lib.ListN.{length}
@@ -28,14 +30,15 @@ use Rattle.rules.proofs.Bag.{in_at, at_in}
 use Rattle.state.specs.declared.Fact.TheVariants.{Heard}
 use Rattle.state.specs.Layout.{hash_kind, backing_kind}
 use Rattle.state.specs.Contents.{Contents, contents}
-use Rattle.bag.specs.Bag.{signer_with}
+use Rattle.bag.specs.Bag.{signer_with, signer_found}
+use Rattle.bag.proofs.Search.{some_signer, no_signer}
 use Rattle.header.specs.declared.Head.{Head}
 use Rattle.header.specs.Quorum.{room, with_peer, reaches}
 use Rattle.header.proofs.Reach.{peer_none}
 use Rattle.view.specs.View.{no_clash, table_of, state_of, told}
 use Rattle.view.specs.Ready.{Ready}
 use Rattle.view.proofs.Heard.{told_at, told_in, number_told}
-use Rattle.bag_guard.specs.Signers.{heard_signer, back_signer, gathered}
+use Rattle.bag_guard.specs.Signers.{or_zero, heard_signer, back_signer, gathered}
 use Rattle.view.proofs.Quorum.{is_quorum}
 
 -- a set with one peer more, member by member
@@ -78,26 +81,26 @@ heard_if : (c : Contents) (j p B e : ℕ) {b : Bool} {k : ℕ} → b ≡ c.has (
 unfolding heard_signer
 heard_if c j p B e t q = ap₂ (λ (b : Bool) (k : ℕ). cond b k 0) t q
 
+or_zero_if : (b : Bool) (k : ℕ) → or_zero (then_some b k) ≡ cond b k 0
+or_zero_if true k = refl
+or_zero_if false k = refl
+
 either_way : (b : Bool) → ◌≡◌ {A = ℕ} (cond b 0 0) 0
 either_way true = refl
 either_way false = refl
 
-module _ (c : Contents) (j p B e set k : ℕ) (q : k ≡ signer_with hash_kind p B (entry_at c.bag e)) where
-  pub heard_none : k ≡ 0 → set ≡ with_peer set (heard_signer c j p B e)
-  heard_none z = peer_none set _ (sym (heard_if c j p B e refl q) ∙ rw z (either_way (c.has (Heard j e))))
+module _ (c : Contents) (j p B e k : ℕ) (q : k ≡ signer_with hash_kind p B (entry_at c.bag e)) where
+  pub heard_none : k ≡ 0 → 0 ≡ heard_signer c j p B e
+  heard_none z = sym (either_way (c.has (Heard j e))) ∙ (rw z at (heard_if c j p B e refl q))
 
-  pub heard_not : {b : Bool} → b ≡ c.has (Heard j e) → b ≡ false → set ≡ with_peer set (heard_signer c j p B e)
-  heard_not t u = peer_none set _ (sym (heard_if c j p B e t q) ∙ rw u)
+  pub heard_some : {b : Bool} {r : Option ℕ} → b ≡ c.has (Heard j e) → r ≡ then_some b k → or_zero r ≡ heard_signer c j p B e
+  heard_some {b} t u = ap or_zero u ∙ or_zero_if b k ∙ heard_if c j p B e t q
 
-  pub heard_more : {b : Bool} {r : ℕ} → b ≡ c.has (Heard j e) → b ≡ true → r ≡ with_peer set k → r ≡ with_peer set (heard_signer c j p B e)
-  heard_more t u w = w ∙ ap (with_peer set) (rw u at (heard_if c j p B e t q))
+pub found_peer : (kind p B : ℕ) (x : Entry) (r : Option ℕ) → r ≡ signer_found kind p B x → or_zero r ≡ signer_with kind p B x
+found_peer kind p B x (Some k) q = some_signer kind p B x q refl
+found_peer kind p B x None q = no_signer kind p B x q refl
 
-module _ (c : Contents) (p B e set k : ℕ) (q : k ≡ signer_with backing_kind p B (entry_at c.bag e)) where
-  pub backer_more : {r : ℕ} → r ≡ with_peer set k → r ≡ with_peer set (back_signer c p B e)
-  unfolding back_signer
-  backer_more w = w ∙ ap (with_peer set) q
-
--- gathering: none yet, one more, all
+-- gathering: none yet, one more
 
 pub gather_none : (f : ℕ → ℕ) → 0 ≡ gathered f 0
 unfolding gathered any pack
@@ -110,8 +113,8 @@ gather_more f e set r s w =
     ∙ pack_ext 16 (λ i. bit set i || eqb (f e) (i + 1)) (λ i. any (e + 1) (λ a. eqb (f a) (i + 1)))
     (λ i l. rw (s, bit-pack 16 (λ i. any e (λ a. eqb (f a) (i + 1))) i l, add-one e))
 
-pub gather_end : (f : ℕ → ℕ) (e n set l : ℕ) → e ≤ n → n ≤ e → n ≡ l → set ≡ gathered f e → set ≡ gathered f l
-gather_end f e n set l a b q s = s ∙ ap (gathered f) {x = e} {y = l} (omega arith)
+pub gather_same : (f : ℕ → ℕ) (e set : ℕ) → set ≡ gathered f e → f e ≡ 0 → set ≡ gathered f (e + 1)
+gather_same f e set s z = gather_more f e set set s (peer_none set (f e) z)
 
 -- who is among those gathered
 pub gathered-has : (f : ℕ → ℕ) (m k : ℕ) → 1 ≤ k → k ≤ room → member (gathered f m) k ≡ any m (λ e. eqb (f e) k)

@@ -1,4 +1,3 @@
 pub mod Full
-pub mod Named
 pub mod Gathered
 pub mod BoardItems

@@ -1,5 +1,5 @@
 -- The peers whose entries support a board of a period, gathered into a set of peers.
-use Rattle.std.specs.Prelude.{ℕ, ◌+◌, cond, eqb}
+use Rattle.std.specs.Prelude.{ℕ, ◌+◌, Option, Some, None, cond, eqb}
 use Rattle.base.specs.Below.{any}
 use Rattle.base.specs.Bits.{pack}
 use Rattle.rules.specs.Bag.{entry_at}
@@ -7,6 +7,11 @@ use Rattle.state.specs.declared.Fact.TheVariants.{Heard}
 use Rattle.state.specs.Layout.{peers, hash_kind, backing_kind}
 use Rattle.state.specs.Contents.{Contents}
 use Rattle.bag.specs.Bag.{signer_with}
+
+-- a peer that was found, else 0
+abbrev pub or_zero : Option ℕ → ℕ
+or_zero (Some k) = k
+or_zero None = 0
 
 -- the signer of entry e if it is a hash of period p and board B that peer j heard, else 0
 unfoldable pub heard_signer : Contents → ℕ → ℕ → ℕ → ℕ → ℕ

@@ -14,22 +14,14 @@ use state::numbers::current_of;
 fn is_hash(x: Entry) -> bool
     ensures { result ≡ is_hash x }
 {
-    match x {
-        Entry::Hash(_, _, _) => true,
-        Entry::Backing(_, _, _) => false,
-        Entry::Board(_, _) => false,
-    }
+    matches!(x, Entry::Hash(..))
 }
 
 // Whether the entry is a backing.
 fn is_backing(x: Entry) -> bool
     ensures { result ≡ is_backing x }
 {
-    match x {
-        Entry::Hash(_, _, _) => false,
-        Entry::Backing(_, _, _) => true,
-        Entry::Board(_, _) => false,
-    }
+    matches!(x, Entry::Backing(..))
 }
 
 // The period that an entry names.
@@ -37,9 +29,7 @@ pub fn period_of(x: Entry) -> u8
     ensures { result ≡ period_of x }
 {
     match x {
-        Entry::Hash(_, p, _) => p,
-        Entry::Backing(_, p, _) => p,
-        Entry::Board(p, _) => p,
+        Entry::Hash(_, p, _) | Entry::Backing(_, p, _) | Entry::Board(p, _) => p,
     }
 }
 
@@ -48,9 +38,7 @@ pub fn board_of_entry(x: Entry) -> u64
     ensures { result ≡ board_of x }
 {
     match x {
-        Entry::Hash(_, _, b) => b,
-        Entry::Backing(_, _, b) => b,
-        Entry::Board(_, b) => b,
+        Entry::Hash(_, _, b) | Entry::Backing(_, _, b) | Entry::Board(_, b) => b,
     }
 }
 
@@ -92,8 +80,5 @@ pub fn is_full(s: &[u8], x: Entry) -> bool
     requires { Canon s.now }
     ensures { result ≡ is_full x (bag_on s.now) }
 {
-    if bag_len(s) < layout::ENTRIES {
-        return false;
-    }
-    !is_in(s, x)
+    layout::ENTRIES <= bag_len(s) && !is_in(s, x)
 }

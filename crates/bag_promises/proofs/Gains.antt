@@ -7,8 +7,8 @@ use lib.ListN.{length}
 use Rattle.header.specs.Header.{head_of}
 use Rattle.ballot.specs.Table.{refusal}
 use Rattle.ballot.proofs.Sound.{sound}
-use Rattle.rules.specs.declared.Call.{Call}
-use Rattle.rules.specs.declared.Call.TheVariants.{Formed, Malformed}
+use Rattle.rules.specs.Form.{Call}
+use Rattle.std.specs.Prelude.{Some, None}
 use Rattle.rules.specs.Bag.{capacity}
 use Rattle.rules.specs.State.{State}
 use Rattle.rules.specs.Form.{read}
@@ -32,8 +32,8 @@ module _ (table : List ℕ) (fit : refusal table ≡ 0) where
 
   full_call : (s : State) (c : Call) → reply (rules_table table) s c ≡ 13 → capacity ≤ length s.bag
   unfolding reply
-  full_call s (Formed st) e = (exact_edges (rules_table table) s).full_only st e
-  full_call s Malformed e = absurd (omega (arith, e))
+  full_call s (Some st) e = (exact_edges (rules_table table) s).full_only st e
+  full_call s None e = absurd (omega (arith, e))
 
   full : (s : List ℕ) → StateOf table s → (step : List ℕ) → step_answer table s step ≡ 13 → length (state_on s).bag ≡ capacity
   full s O step e =

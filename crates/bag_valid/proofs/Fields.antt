@@ -1,50 +1,20 @@
 -- Laws of the four numbers of an entry, as the code tests them one after the other.
-use Prim.Native.Nat.{ℕ, ◌^◌, ◌<◌, ◌≤◌}
+use Prim.Native.Nat.{ℕ, ◌^◌}
 use native.Mathlib.Decide.{ℕ_discrete}
-use native.Mathlib.Omega.{arith}
-use mathlib.Core.Bool.{Bool, true, false, ◌&&◌, ◌||◌, cond}
+use mathlib.Core.Bool.{Bool, true, false, ◌&&◌, cond}
 use mathlib.Core.List.{List}
 use mathlib.Core.Path.{◌≡◌, refl, ap, ◌∙◌}
-use lib.Dec.{eqb, leb, ltb}
-use borrow.Author.Tests.{eq-eqb, ne_eqb, le-leb, lt-leb}
+use lib.Dec.{eqb, ltb}
+use borrow.Author.Tests.{ne_eqb}
 use Rattle.base.specs.Bytes.{between}
-use Rattle.base.proofs.Truth.{eqb_self, or_l, or_r}
+use Rattle.base.proofs.Truth.{eqb_self}
 use Rattle.rules.specs.declared.Entry.{Entry}
-use Rattle.state.specs.Layout.{hash_kind, backing_kind, board_kind}
 use Rattle.rules.specs.Bag.{kind_of, signer_of}
 use Rattle.state.specs.Entries.{entry_of}
 use Rattle.state.specs.Contents.{entry_at}
 use Rattle.header.specs.declared.Head.{Head}
 use Rattle.bag_valid.specs.BagOk.{entry_ok, entry_at_ok}
 use Rattle.bag_valid.specs.Numbers.{signer_ok, four_ok, kind_at, signer_at, period_at, board_at}
-
--- the signer of a kind
-
-module _ (n kind signer : ℕ) where
-  pub signer_board : kind ≡ board_kind → eqb signer 0 ≡ signer_ok n kind signer
-  unfolding signer_ok
-  signer_board e = rw e
-
-  module _ (other : kind ≡ board_kind → ⊥) where
-    pub no_kind : (kind ≡ hash_kind → ⊥) → (kind ≡ backing_kind → ⊥) → false ≡ signer_ok n kind signer
-    unfolding signer_ok
-    no_kind a b = rw (ne_eqb kind board_kind other, ne_eqb kind hash_kind a, ne_eqb kind backing_kind b)
-
-    module _ (low : hash_kind ≤ kind) (high : kind ≤ backing_kind) where
-      signed : eqb kind hash_kind || eqb kind backing_kind ≡ true
-      signed = go (ℕ_discrete kind hash_kind)
-        where
-          go : Dec (kind ≡ hash_kind) → eqb kind hash_kind || eqb kind backing_kind ≡ true
-          go (yes e) = or_l _ _ (eq-eqb kind hash_kind e)
-          go (no e) = or_r (eqb kind hash_kind) _ (eq-eqb kind backing_kind (omega arith))
-
-      pub no_signer : signer < 1 → false ≡ signer_ok n kind signer
-      unfolding signer_ok
-      no_signer l = rw (ne_eqb kind board_kind other, signed, lt-leb 1 signer l)
-
-      pub signer_left : 1 ≤ signer → leb signer n ≡ signer_ok n kind signer
-      unfolding signer_ok
-      signer_left l = rw (ne_eqb kind board_kind other, signed, le-leb 1 signer l)
 
 -- the four numbers of an entry of the table
 module _ (h : Head) (kind signer period board : ℕ) where

@@ -1,2 +1,3 @@
 pub mod BagOk
 pub mod Numbers
+pub mod Marks

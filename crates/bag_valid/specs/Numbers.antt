@@ -1,10 +1,9 @@
 -- The four numbers of an entry, as they stand in the bytes.
-use Rattle.std.specs.Prelude.{ℕ, ◌+◌, ◌*◌, ◌%◌, ◌^◌, Bool, cond, ◌&&◌, ◌||◌, not, List, ◌≡◌, eqb, ltb, length}
+use Rattle.std.specs.Prelude.{ℕ, ◌+◌, ◌*◌, ◌%◌, ◌^◌, Bool, cond, ◌&&◌, ◌||◌, not, List, eqb, ltb}
 use Rattle.base.specs.Below.{any}
 use Rattle.base.specs.Bytes.{byte_at, between}
-use Rattle.base.specs.Marks.{Marked}
-use Rattle.bits.specs.Row.{bit_at}
 use Rattle.bits.specs.Number.{num}
+use Rattle.marks.specs.New.{marks}
 use Rattle.state.specs.Layout.{periods, item_bytes, entry_start, signer_in, period_in, board_in, hash_kind, backing_kind, board_kind}
 use Rattle.header.specs.declared.Head.{Head}
 
@@ -17,10 +16,6 @@ signer_ok n kind signer =
 unfoldable pub four_ok : Head → ℕ → ℕ → ℕ → ℕ → Bool
 four_ok h kind signer period board = signer_ok h.n kind signer && (ltb period h.periods && ltb board (2 ^ h.items))
 
--- how many marks there are
-abbrev pub marks : ℕ
-marks = 32768
-
 -- a prime below, a step that spreads the names, and more than there are signers
 
 abbrev pub mark_prime : ℕ
@@ -31,10 +26,6 @@ mark_step = 41
 
 abbrev pub signers : ℕ
 signers = 32
-
--- the bytes of a row with a bit for each
-abbrev pub mark_bytes : ℕ
-mark_bytes = 4096
 
 -- the mark of an entry's four numbers: where it differs, the entries differ, and for most that differ it does
 unfoldable pub mark_of : ℕ → ℕ → ℕ → ℕ → ℕ
@@ -58,11 +49,6 @@ module _ (s : List ℕ) where
 
   unfoldable pub mark_at : ℕ → ℕ
   mark_at e = mark_of (kind_at e) (signer_at e) (period_at e) (board_at e)
-
-  -- the row of bits `seen` has the marks of all entries before e
-  pub record Seen (seen : List ℕ) (e : ℕ) : Type 0 where
-    pub long : length seen ≡ mark_bytes
-    pub marked : Marked mark_at (bit_at seen) e
 
   -- entries e and d have the same four
   unfoldable pub same_at : ℕ → ℕ → Bool

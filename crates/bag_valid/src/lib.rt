@@ -1,5 +1,5 @@
 // Row 14 of the bag: how many entries it has, each of them by itself, no two the same, and nothing after the last.
-// It uses state's layout and bits to read.
+// It uses state's layout, bits to read, and marks to tell entries apart.
 #![tactic(auto)]
 
 ghost use Rattle.std.specs.Prelude.{◌≡◌, ◌<◌, ◌≤◌, length};
@@ -19,36 +19,24 @@ use state::layout::{
 pub mod distinct;
 
 // Whether the kind is one, and the signer one that the kind may have.
+#[tactic(auto, unfolding(crate::specs::Numbers::signer_ok))]
 fn signer_ok(n: u8, kind: u8, signer: u8) -> bool
     ensures { result ≡ signer_ok n kind signer }
 {
-    if kind == BOARD {
-        return signer == 0;
+    match kind {
+        BOARD => signer == 0,
+        HASH | BACKING => (1..=n).contains(&signer),
+        _ => false,
     }
-    if kind < HASH {
-        return false;
-    }
-    if kind > BACKING {
-        return false;
-    }
-    if signer < 1 {
-        return false;
-    }
-    signer <= n
 }
 
 // Whether the four numbers are those of an entry of the table.
+#[tactic(auto, unfolding(crate::specs::Numbers::four_ok))]
 fn four_ok(h: Head, kind: u8, signer: u8, period: u8, board: u64) -> bool
     requires { h.items ≤ items }
     ensures { result ≡ four_ok h kind signer period board }
 {
-    if !signer_ok(h.n, kind, signer) {
-        return false;
-    }
-    if period >= h.periods {
-        return false;
-    }
-    bits::is_below(board, h.items)
+    signer_ok(h.n, kind, signer) && period < h.periods && bits::is_below(board, h.items)
 }
 
 // Whether entry e is of the table, and its bytes are those of the entry that they say.
@@ -71,14 +59,7 @@ fn entries_ok(s: &[u8], h: Head, n: usize) -> bool
     requires { (length s.now ≡ size) × ((n ≤ entries) × (h.items ≤ items)) }
     ensures { result ≡ every n (entry_at_ok h s.now) }
 {
-    let mut e = 0;
-    while e < n {
-        if !entry_at_ok(s, h, e) {
-            return false;
-        }
-        e += 1;
-    }
-    true
+    (0..n).all(|e| entry_at_ok(s, h, e))
 }
 
 // How many entries the bag has.

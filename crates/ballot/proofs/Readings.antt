@@ -4,6 +4,7 @@ use native.Mathlib.Omega.{arith}
 use mathlib.Core.Bool.{Bool, true, false}
 use mathlib.Core.List.{List}
 use mathlib.Core.Logic.{◌⊎◌, inl, inr}
+use Rattle.std.specs.Prelude.{Option, Some, None}
 use mathlib.Core.Path.{◌≡◌, refl, sym, subst}
 use lib.Dec.{ltb, eqb}
 use lib.ListN.{length}
@@ -18,8 +19,6 @@ use Rattle.ballot.specs.declared.item.Kind.TheVariants.{Vote, Audit, PlacedAudit
 use Rattle.ballot.specs.declared.item.Audits.{Audits}
 use Rattle.ballot.specs.declared.item.Audits.TheVariants.{Bare, Placed, Either}
 use Rattle.ballot.specs.declared.item.Item.{Item}
-use Rattle.ballot.specs.declared.item.Reading.{Reading}
-use Rattle.ballot.specs.declared.item.Reading.TheVariants.{Good, Wrong}
 use Rattle.ballot.specs.Item.{kind_number, ballot_of, kind_byte, body_at, place_of, good_if, placed_audit, read_audit, read_kind, read_item, reading_number}
 use Rattle.ballot.specs.Item.{is_item, item_at, all_items, body_size, body_ok, takes, ReadAs}
 
@@ -30,17 +29,17 @@ rest_of text = length text - body_at
 -- by the length, as the machine goes
 
 module _ (audits : Audits) (text : List ℕ) where
-  pub text_short : length text < body_at → Wrong ≡ read_item audits text
+  pub text_short : length text < body_at → None ≡ read_item audits text
   unfolding read_item
   text_short l = rw (lt-ltb (length text) body_at l)
 
-  pub text_long : {r : Reading} → body_at ≤ length text
+  pub text_long : {r : Option Item} → body_at ≤ length text
       → r ≡ read_kind audits (ballot_of text) (kind_byte text) (rest_of text) (place_of text) → r ≡ read_item audits text
   unfolding read_item
   text_long l r-is = rw (le-ltb (length text) body_at l) r-is
 
 -- what is wrong is no item
-wrong : {A : Type 0} {i : Item} → Wrong ≡ Good i → A
+wrong : {A : Type 0} {i : Item} → None ≡ Some i → A
 wrong e = let zero_one : ◌≡◌ {A = ℕ} 0 1 = cc in absurd (omega arith)
 
 -- a text that reads as an item is the item's text, and the item is one of those that are taken
@@ -48,7 +47,7 @@ wrong e = let zero_one : ◌≡◌ {A = ℕ} 0 1 = cc in absurd (omega arith)
 module _ (audits : Audits) (text : List ℕ) (i : Item) where
   of_kind : (kind : Kind) (ok : Bool) → kind_byte text ≡ kind_number kind → takes audits kind ≡ true
       → (ok ≡ true → (length text ≡ body_at + body_size kind) × (body_ok text kind ≡ true))
-      → good_if ok (ballot_of text) kind ≡ Good i → ReadAs audits text i
+      → good_if ok (ballot_of text) kind ≡ Some i → ReadAs audits text i
   of_kind kind true k t sized e =
       let read : record { ballot = ballot_of text; kind = kind } ≡ i = cc in
       let own = sized refl in
@@ -58,18 +57,18 @@ module _ (audits : Audits) (text : List ℕ) (i : Item) where
   module _ (long : body_at ≤ length text) where
     -- nothing stands after the kind byte of an audit without a place, and of a cancellation
     ends : (kind : Kind) → kind_byte text ≡ kind_number kind → body_size kind ≡ 0 → body_ok text kind ≡ true → takes audits kind ≡ true
-        → good_if (eqb (rest_of text) 0) (ballot_of text) kind ≡ Good i → ReadAs audits text i
+        → good_if (eqb (rest_of text) 0) (ballot_of text) kind ≡ Some i → ReadAs audits text i
     ends kind k none ok t e = of_kind kind (eqb (rest_of text) 0) k t (λ o. (omega (arith, eqb-true (rest_of text) 0 o, none), ok)) e
 
     -- one byte does of an audit with its place
     placed : kind_byte text ≡ 2 → ((place : ℕ) → takes audits (PlacedAudit place) ≡ true)
-        → placed_audit (ballot_of text) (rest_of text) (place_of text) ≡ Good i → ReadAs audits text i
+        → placed_audit (ballot_of text) (rest_of text) (place_of text) ≡ Some i → ReadAs audits text i
     placed k t e =
         let place = place_of text in
         of_kind (PlacedAudit place) (eqb (rest_of text) 1) k (t place) (λ o. (omega (arith, eqb-true (rest_of text) 1 o), eqb_self place)) e
 
 audit-read : (audits : Audits) (text : List ℕ) (i : Item) → body_at ≤ length text → kind_byte text ≡ 2
-    → read_audit audits (ballot_of text) (rest_of text) (place_of text) ≡ Good i → ReadAs audits text i
+    → read_audit audits (ballot_of text) (rest_of text) (place_of text) ≡ Some i → ReadAs audits text i
 audit-read Bare text i long k e = ends Bare text i long Audit k refl refl refl e
 audit-read Placed text i long k e = placed Placed text i long k (λ place. refl) e
 audit-read Either text i long k e = go (either (eqb (rest_of text) 0))
@@ -79,7 +78,7 @@ audit-read Either text i long k e = go (either (eqb (rest_of text) 0))
     go (inr some) = placed Either text i long k (λ place. refl) (rw some at e)
 
 module _ (audits : Audits) (text : List ℕ) (i : Item) where
-  kind_read : body_at ≤ length text → read_kind audits (ballot_of text) (kind_byte text) (rest_of text) (place_of text) ≡ Good i
+  kind_read : body_at ≤ length text → read_kind audits (ballot_of text) (kind_byte text) (rest_of text) (place_of text) ≡ Some i
       → ReadAs audits text i
   unfolding read_kind
   kind_read long e = go (either (eqb k 1)) (either (eqb k 2)) (either (eqb k 3))
@@ -96,7 +95,7 @@ module _ (audits : Audits) (text : List ℕ) (i : Item) where
       go (inr v) (inr a) (inl c) = ends audits text i long Cancellation (eqb-true k 3 c) refl refl refl (rw (v, a, c) at e)
       go (inr v) (inr a) (inr c) = wrong (rw (v, a, c) at e)
 
-  pub good_read : read_item audits text ≡ Good i → ReadAs audits text i
+  pub good_read : read_item audits text ≡ Some i → ReadAs audits text i
   unfolding read_item
   good_read e = go (either (ltb (length text) body_at))
     where
@@ -107,7 +106,7 @@ module _ (audits : Audits) (text : List ℕ) (i : Item) where
 -- and the item's text reads as the item, where it is taken
 
 kind_good : (audits : Audits) (text : List ℕ) (b : ℕ) (kind : Kind) → body_ok text kind ≡ true → takes audits kind ≡ true
-    → read_kind audits b (kind_number kind) (body_size kind) (place_of text) ≡ Good (record { ballot = b; kind = kind })
+    → read_kind audits b (kind_number kind) (body_size kind) (place_of text) ≡ Some (record { ballot = b; kind = kind })
 unfolding read_kind
 kind_good audits text b (Vote n) ok t = rw ok
 kind_good Bare text b Audit ok t = refl
@@ -118,7 +117,7 @@ kind_good Placed text b (PlacedAudit place) ok t = rw (eqb-true (place_of text) 
 kind_good Either text b (PlacedAudit place) ok t = rw (eqb-true (place_of text) place ok)
 kind_good audits text b Cancellation ok t = refl
 
-pub read_good : (audits : Audits) (text : List ℕ) (i : Item) → ReadAs audits text i → read_item audits text ≡ Good i
+pub read_good : (audits : Audits) (text : List ℕ) (i : Item) → ReadAs audits text i → read_item audits text ≡ Some i
 read_good audits text i read =
     let says = read.says in
     let rest : rest_of text ≡ body_size i.kind = omega (arith, says.size) in
@@ -129,17 +128,17 @@ read_good audits text i read =
 
 pub record Read (audits : Audits) (text : List ℕ) : Type 0 where
   pub item : Item
-  pub reads : read_item audits text ≡ Good item
+  pub reads : read_item audits text ≡ Some item
 
 pub item-read : (audits : Audits) (text : List ℕ) → is_item audits text ≡ true → Read audits text
 unfolding is_item
 item-read audits text ok = go (read_item audits text) refl ok
   where
-    go : (r : Reading) → read_item audits text ≡ r → eqb (reading_number r) 0 ≡ true → Read audits text
-    go (Good i) e good = record { item = i; reads = e }
-    go Wrong e good = absurd (omega (arith, eqb-true 3 0 good))
+    go : (r : Option Item) → read_item audits text ≡ r → eqb (reading_number r) 0 ≡ true → Read audits text
+    go (Some i) e good = record { item = i; reads = e }
+    go None e good = absurd (omega (arith, eqb-true 3 0 good))
 
-pub read-item : (audits : Audits) (text : List ℕ) (i : Item) → read_item audits text ≡ Good i → is_item audits text ≡ true
+pub read-item : (audits : Audits) (text : List ℕ) (i : Item) → read_item audits text ≡ Some i → is_item audits text ≡ true
 unfolding is_item
 read-item audits text i e = rw e
 

@@ -1,7 +1,7 @@
 -- Items: a ballot and a kind, read from an item's text; and whether each of several texts reads as one.
 -- Document 01 names the kinds Vote(length), Audit and Cancellation; an audit with its place, from document 02's P5, is
 -- PlacedAudit(place).
-use Rattle.std.specs.Prelude.{ℕ, ◌+◌, ◌-◌, Bool, true, false, cond, List, ◌≡◌, ltb, eqb, length}
+use Rattle.std.specs.Prelude.{Option, Some, None, ℕ, ◌+◌, ◌-◌, Bool, true, false, cond, List, ◌≡◌, ltb, eqb, length}
 use Rattle.base.specs.Bytes.{byte_at, number_at, between}
 use Rattle.base.specs.Below.{every}
 use Rattle.base.specs.Refusals.{item, number_of}
@@ -11,8 +11,6 @@ use Rattle.ballot.specs.declared.item.Kind.TheVariants.{Vote, Audit, PlacedAudit
 use Rattle.ballot.specs.declared.item.Audits.{Audits}
 use Rattle.ballot.specs.declared.item.Audits.TheVariants.{Bare, Placed, Either}
 use Rattle.ballot.specs.declared.item.Item.{Item}
-use Rattle.ballot.specs.declared.item.Reading.{Reading}
-use Rattle.ballot.specs.declared.item.Reading.TheVariants.{Good, Wrong}
 
 -- the kind byte of each kind
 abbrev pub kind_number : Kind → ℕ
@@ -21,10 +19,10 @@ kind_number Audit = 2
 kind_number (PlacedAudit place) = 2
 kind_number Cancellation = 3
 
--- the number on the report of each reading
-abbrev pub reading_number : Reading → ℕ
-reading_number (Good i) = 0
-reading_number Wrong = number_of item
+-- the number on the report of what a text says: 0 of an item, 3 where it says none
+abbrev pub reading_number : Option Item → ℕ
+reading_number (Some i) = 0
+reading_number None = number_of item
 
 -- the ballot number: four bytes, high byte first
 abbrev pub ballot_of : List ℕ → ℕ
@@ -43,35 +41,35 @@ abbrev pub place_of : List ℕ → ℕ
 place_of text = byte_at text body_at
 
 -- the item of a ballot and a kind, if the test holds
-abbrev pub good_if : Bool → ℕ → Kind → Reading
-good_if ok b kind = cond ok (Good (record { ballot = b; kind = kind })) Wrong
+abbrev pub good_if : Bool → ℕ → Kind → Option Item
+good_if ok b kind = cond ok (Some (record { ballot = b; kind = kind })) None
 
 -- the audit of a ballot, by the number of bytes after the kind byte: none without a place, one with it
 
-abbrev pub bare_audit : ℕ → ℕ → Reading
+abbrev pub bare_audit : ℕ → ℕ → Option Item
 bare_audit b rest = good_if (eqb rest 0) b Audit
 
-abbrev pub placed_audit : ℕ → ℕ → ℕ → Reading
+abbrev pub placed_audit : ℕ → ℕ → ℕ → Option Item
 placed_audit b rest place = good_if (eqb rest 1) b (PlacedAudit place)
 
 -- and by which of the two are items
-abbrev pub read_audit : Audits → ℕ → ℕ → ℕ → Reading
+abbrev pub read_audit : Audits → ℕ → ℕ → ℕ → Option Item
 read_audit Bare b rest place = bare_audit b rest
 read_audit Placed b rest place = placed_audit b rest place
 read_audit Either b rest place = cond (eqb rest 0) (bare_audit b rest) (placed_audit b rest place)
 
 -- the item of a ballot, a kind byte and the number of bytes after it: 1 to 32 preferences of a vote, none of a
 -- cancellation
-unfoldable pub read_kind : Audits → ℕ → ℕ → ℕ → ℕ → Reading
+unfoldable pub read_kind : Audits → ℕ → ℕ → ℕ → ℕ → Option Item
 read_kind audits b k rest place =
     cond (eqb k (kind_number (Vote rest))) (good_if (between 1 rest 32) b (Vote rest))
     (cond (eqb k (kind_number Audit)) (read_audit audits b rest place)
-    (cond (eqb k (kind_number Cancellation)) (good_if (eqb rest 0) b Cancellation) Wrong))
+    (cond (eqb k (kind_number Cancellation)) (good_if (eqb rest 0) b Cancellation) None))
 
 -- what an item's text says
-unfoldable pub read_item : Audits → List ℕ → Reading
+unfoldable pub read_item : Audits → List ℕ → Option Item
 read_item audits text =
-    cond (ltb (length text) body_at) Wrong
+    cond (ltb (length text) body_at) None
     (read_kind audits (ballot_of text) (kind_byte text) (length text - body_at) (place_of text))
 
 -- the text reads as an item

@@ -1,7 +1,9 @@
 // Items: a ballot and a kind, read from an item's text; and whether each of several texts reads as one.
 ghost use Rattle.std.specs.Prelude.{◌≡◌};
-ghost use Rattle.ballot.specs.Item.{ballot_of, good_if, bare_audit, placed_audit, read_audit, read_kind, read_item};
-ghost use Rattle.ballot.specs.Item.{ballot_in, reading_number, item_at, all_items};
+ghost use Rattle.ballot.specs.Item.{ballot_of, bare_audit, placed_audit, read_audit, read_kind, read_item};
+ghost use Rattle.ballot.specs.Item.{ballot_in, item_at, all_items};
+
+use pairs::Pairs;
 
 // What an item is, beside its ballot.
 #[derive(Clone, Copy)]
@@ -32,14 +34,6 @@ pub struct Item {
     pub kind: Kind,
 }
 
-// What an item's text says.
-#[derive(Clone, Copy)]
-pub enum Reading {
-    Good(Item),
-    // A length or a kind byte that no item has.
-    Wrong,
-}
-
 // The kind bytes.
 const VOTE: u8 = 1;
 
@@ -59,40 +53,35 @@ pub fn ballot(text: &[u8]) -> u32
     base::number_at(text, 0, 4) as u32
 }
 
-// Of the texts that pairs from byte `at` on mark out: the ballot number of text k.
-pub fn ballot_in(s: &[u8], at: u8, k: u8) -> u32
-    ensures { result ≡ ballot_in s.now at k }
+// Of the texts that pairs mark out: the ballot number of text k.
+pub fn ballot_in(p: Pairs, k: u8) -> u32
+    ensures { result ≡ ballot_in p.entry.bytes.now p.entry.at k }
 {
-    ballot(pairs::text(s, at, k))
-}
-
-// The item of a ballot and a kind, if the test holds.
-fn good_if(ok: bool, ballot: u32, kind: Kind) -> Reading
-    ensures { result ≡ good_if ok ballot kind }
-{
-    if ok {
-        Reading::Good(Item { ballot, kind })
-    } else {
-        Reading::Wrong
-    }
+    ballot(p.text(k))
 }
 
 // The audit of a ballot, without a place: no byte follows the kind byte.
-fn bare_audit(ballot: u32, rest: usize) -> Reading
+fn bare_audit(ballot: u32, rest: usize) -> Option<Item>
     ensures { result ≡ bare_audit ballot rest }
 {
-    good_if(rest == 0, ballot, Kind::Audit)
+    (rest == 0).then_some(Item {
+        ballot,
+        kind: Kind::Audit,
+    })
 }
 
 // The audit of a ballot, with its place: one byte follows the kind byte.
-fn placed_audit(ballot: u32, rest: usize, place: u8) -> Reading
+fn placed_audit(ballot: u32, rest: usize, place: u8) -> Option<Item>
     ensures { result ≡ placed_audit ballot rest place }
 {
-    good_if(rest == 1, ballot, Kind::PlacedAudit(place))
+    (rest == 1).then_some(Item {
+        ballot,
+        kind: Kind::PlacedAudit(place),
+    })
 }
 
 // The audit of a ballot, of those that are items.
-fn read_audit(audits: Audits, ballot: u32, rest: usize, place: u8) -> Reading
+fn read_audit(audits: Audits, ballot: u32, rest: usize, place: u8) -> Option<Item>
     ensures { result ≡ read_audit audits ballot rest place }
 {
     match audits {
@@ -109,30 +98,30 @@ fn read_audit(audits: Audits, ballot: u32, rest: usize, place: u8) -> Reading
 }
 
 // The item of a ballot, a kind byte, the number of bytes after it and the first of them.
-fn read_kind(audits: Audits, ballot: u32, k: u8, rest: usize, place: u8) -> Reading
+#[tactic(auto, unfolding(crate::specs::Item::read_kind))]
+fn read_kind(audits: Audits, ballot: u32, k: u8, rest: usize, place: u8) -> Option<Item>
     ensures { result ≡ read_kind audits ballot k rest place }
 {
-    if k == VOTE {
-        if rest < 1 {
-            return Reading::Wrong;
-        }
-        return good_if(rest <= 32, ballot, Kind::Vote(rest));
+    match k {
+        VOTE => (1 <= rest && rest <= 32).then_some(Item {
+            ballot,
+            kind: Kind::Vote(rest),
+        }),
+        AUDIT => read_audit(audits, ballot, rest, place),
+        CANCELLATION => (rest == 0).then_some(Item {
+            ballot,
+            kind: Kind::Cancellation,
+        }),
+        _ => None,
     }
-    if k == AUDIT {
-        return read_audit(audits, ballot, rest, place);
-    }
-    if k == CANCELLATION {
-        return good_if(rest == 0, ballot, Kind::Cancellation);
-    }
-    Reading::Wrong
 }
 
-// What an item's text says.
-pub fn read_item(audits: Audits, text: &[u8]) -> Reading
+// What an item's text says; none where it has a length or a kind byte that no item has.
+pub fn read_item(audits: Audits, text: &[u8]) -> Option<Item>
     ensures { result ≡ read_item audits text.now }
 {
     if text.len() < BODY_AT {
-        return Reading::Wrong;
+        return None;
     }
     read_kind(
         audits,
@@ -143,33 +132,17 @@ pub fn read_item(audits: Audits, text: &[u8]) -> Reading
     )
 }
 
-// The number on the report of a reading.
-pub fn reading_number(r: Reading) -> u8
-    ensures { result ≡ reading_number r }
+// Of the texts that pairs mark out: whether text k reads as an item.
+#[tactic(auto, unfolding(crate::specs::Item::item_at, crate::specs::Item::is_item))]
+fn is_item(audits: Audits, p: Pairs, k: u8) -> bool
+    ensures { result ≡ item_at audits p.entry.bytes.now p.entry.at k }
 {
-    match r {
-        Reading::Good(_) => 0,
-        Reading::Wrong => 3,
-    }
+    read_item(audits, p.text(k)).is_some()
 }
 
-// Of the texts that pairs from byte `at` on mark out: whether text k reads as an item.
-fn is_item(audits: Audits, s: &[u8], at: u8, k: u8) -> bool
-    ensures { result ≡ item_at audits s.now at k }
+// Whether each of them reads as an item.
+pub fn all_items(audits: Audits, p: Pairs) -> bool
+    ensures { result ≡ all_items audits p.entry.bytes.now p.entry.at p.entry.count }
 {
-    reading_number(read_item(audits, pairs::text(s, at, k))) == 0
-}
-
-// Whether each of m of them reads as an item.
-pub fn all_items(audits: Audits, s: &[u8], at: u8, m: u8) -> bool
-    ensures { result ≡ all_items audits s.now at m }
-{
-    let mut k: u8 = 0;
-    while k < m {
-        if !is_item(audits, s, at, k) {
-            return false;
-        }
-        k += 1;
-    }
-    true
+    (0..p.count).all(|k| is_item(audits, p, k))
 }

@@ -4,19 +4,35 @@
 #![tactic(auto)]
 
 ghost use Rattle.std.specs.Prelude.{◌≡◌};
+ghost use Rattle.base.specs.Refusals.{answer_of};
 ghost use Rattle.ballot.specs.Table.{audits_in, audits_of, table_pairs_ok, items_ok, no_twins, refusal};
+ghost use Rattle.ballot.specs.Reader.{pairs_over};
 
 use crate::item::Audits;
+use base::refusal::Refusal;
 use header::season::Season;
+use pairs::Pairs;
 
 pub mod item; // an item, read from its text
 pub mod reader; // a reader that stands over the table's bytes
 
+// The table's own pairs.
+pub fn pairs_of<'a>(table: &'a [u8]) -> Pairs<'a>
+    ensures { result ≡ pairs_over table.entry }
+{
+    Pairs {
+        bytes: table,
+        at: header::header_size(table),
+        count: header::items(table),
+    }
+}
+
 // Whether the table's own pairs are right.
+#[tactic(auto, unfolding(crate::specs::Table::table_pairs_ok))]
 fn table_pairs_ok(table: &[u8]) -> bool
     ensures { result ≡ table_pairs_ok table.now }
 {
-    pairs::pairs_ok(table, header::header_size(table), header::items(table))
+    pairs_of(table).are_ok()
 }
 
 // The audits of a season's tables.
@@ -38,39 +54,37 @@ pub fn audits(table: &[u8]) -> Audits
 }
 
 // Whether every item's text reads as an item of the table's season.
+#[tactic(auto, unfolding(crate::specs::Table::items_ok))]
 fn items_ok(table: &[u8]) -> bool
     ensures { result ≡ items_ok table.now }
 {
-    item::all_items(
-        audits(table),
-        table,
-        header::header_size(table),
-        header::items(table),
-    )
+    item::all_items(audits(table), pairs_of(table))
 }
 
 // Whether no two items are twins.
+#[tactic(auto, unfolding(crate::specs::Table::no_twins))]
 fn no_twins(table: &[u8]) -> bool
     ensures { result ≡ no_twins table.now }
 {
-    twins::no_twins(table, header::header_size(table), header::items(table))
+    twins::no_twins(pairs_of(table))
 }
 
-// The first refusal that applies, 1 header, 2 pairs, 3 item or 4 twin; 0 where none does.
-pub fn check_table(table: &[u8]) -> u8
-    ensures { result ≡ refusal table.now }
+// The first refusal that applies, if one does: the header's, the pairs', an item's or a twin's.
+#[tactic(auto, unfolding(crate::specs::Table::refusal, base::specs::Refusals::first))]
+pub fn check_table(table: &[u8]) -> Result<(), Refusal>
+    ensures { answer_of result ≡ refusal table.now }
 {
     if !header::header_ok(table) {
-        return 1;
+        return Err(Refusal::Header);
     }
     if !table_pairs_ok(table) {
-        return 2;
+        return Err(Refusal::Pairs);
     }
     if !items_ok(table) {
-        return 3;
+        return Err(Refusal::Item);
     }
     if !no_twins(table) {
-        return 4;
+        return Err(Refusal::Twin);
     }
-    0
+    Ok(())
 }

@@ -4,6 +4,8 @@ ghost use Rattle.std.specs.Prelude.{◌≡◌};
 ghost use Rattle.ballot.specs.Table.{item_below, item_text};
 ghost use Rattle.ballot.specs.Reader.{reader_over};
 
+use pairs::Pairs;
+
 // A table and the number of its items.
 #[derive(Drop)]
 pub struct Reader<'a> {
@@ -16,7 +18,12 @@ fn item_below(table: &[u8], items: u8, k: u8) -> &[u8]
     ensures { result.now ≡ item_below table.now items k }
 {
     if k < items {
-        return pairs::text(table, header::header_size(table), k);
+        let pairs = Pairs {
+            bytes: table,
+            at: header::header_size(table),
+            count: items,
+        };
+        return pairs.text(k);
     }
     &table[..0]
 }

@@ -1,16 +1,12 @@
--- Whether a number has only the low m bits: nothing is left when it is shifted by m, and any of eight bytes is below 2 ^ 64.
-use Prim.Native.Nat.{ℕ, ◌/◌, ◌^◌, ◌<◌}
+-- Whether a number has only the low m bits: nothing is left when it is shifted by m.
+use Prim.Native.Nat.{ℕ, ◌/◌, ◌^◌}
 use native.Mathlib.Nat.{mod-lt, div-add-mod, div-eq_of_lt}
 use native.Mathlib.Omega.{arith}
-use mathlib.Core.Bool.{true}
-use mathlib.Core.Path.{◌≡◌, sym}
+use mathlib.Core.Path.{◌≡◌}
 use lib.Dec.{eqb, ltb}
 use lib.Pow.{pow_pos}
 use borrow.Author.Tests.{eqb-true, eq-eqb, lt-ltb, ltb-true}
 use Rattle.base.proofs.Truth.{iff}
-
-pub all_below : (m x : ℕ) → m ≡ 64 → x < 2 ^ 64 → true ≡ ltb x (2 ^ m)
-all_below m x e l = rw e (sym (lt-ltb x (2 ^ 64) l))
 
 pub none_above_lem : (m x : ℕ) → eqb (x / 2 ^ m) 0 ≡ ltb x (2 ^ m)
 none_above_lem m x = iff _ _

@@ -1,5 +1,6 @@
 // The engine for C, whose slices are a pointer and a length: `include/board.h` declares these functions.
-// It uses ballot, engine, rehearsal, shrinking, gains, printing and sheets, and adds nothing to what they promise.
+// It uses ballot, engine, rehearsal, shrinking, gains, printing and sheets, and adds nothing to what they promise but
+// the numbers of refusals.
 #![tactic(auto)]
 
 ghost use Rattle.std.specs.Prelude.{◌≤◌, ◌≡◌, length};
@@ -15,15 +16,14 @@ ghost use Rattle.sheets.specs.Found.{sheet_answer, found, found_number, found_of
 ghost use Rattle.printing.specs.Written.{written, sheet_left, written_number, written_length};
 ghost use Rattle.engine.specs.Engine.{step_answer, step_bytes, fresh_answer, fresh_bytes};
 
-use printing::Written;
-use sheets::Found;
+use base::refusal::answer;
 
 // Judges a table; the answer is 0, or the refusal.
 #[unsafe(no_mangle)]
 pub extern "C" fn board_check_table(table: &[u8]) -> u8
     ensures { result ≡ refusal table.now }
 {
-    ballot::check_table(table)
+    answer(ballot::check_table(table))
 }
 
 // The length of a state buffer.
@@ -40,7 +40,7 @@ pub extern "C" fn board_fresh(table: &[u8], state: &mut [u8]) -> u8
     ensures { (result ≡ fresh_answer table.now state.old)
         × (state.new ≡ fresh_bytes table.now state.old) }
 {
-    engine::fresh(table, state)
+    answer(engine::fresh(table, state))
 }
 
 // Takes a step of thirteen bytes; the answer is 0, or the refusal.
@@ -49,7 +49,7 @@ pub extern "C" fn board_step(table: &[u8], state: &mut [u8], step: &[u8]) -> u8
     ensures { (result ≡ step_answer table.now state.old step.now)
         × (state.new ≡ step_bytes table.now state.old step.now) }
 {
-    engine::step(table, state, step)
+    answer(engine::step(table, state, step))
 }
 
 // The length of an output that has room for every report.
@@ -124,11 +124,11 @@ pub extern "C" fn board_write_sheet(
         (written table.now state.now period (length sheet.old)) }
 {
     match printing::write_sheet(table, state, period, sheet) {
-        Written::Sheet(n) => {
+        Ok(n) => {
             *long = n;
             0
         }
-        Written::Refused(r) => r,
+        Err(refusal) => refusal.number(),
     }
 }
 
@@ -137,7 +137,7 @@ pub extern "C" fn board_write_sheet(
 pub extern "C" fn board_check_sheet(sheet: &[u8]) -> u8
     ensures { result ≡ sheet_answer sheet.now }
 {
-    sheets::check_sheet(sheet)
+    answer(sheets::check_sheet(sheet))
 }
 
 // Gives the offset and the length of an item's text in a sheet; the answer is 0, or the refusal, which alters neither.
@@ -155,11 +155,11 @@ pub extern "C" fn board_sheet_item(
         ≡ found_length long.old (found sheet.now item) }
 {
     match sheets::find_item(sheet, item) {
-        Found::Part(offset, size) => {
-            *start = offset;
-            *long = size;
+        Ok(part) => {
+            *start = part.offset;
+            *long = part.length;
             0
         }
-        Found::Refused(r) => r,
+        Err(r) => r.number(),
     }
 }

@@ -1,2 +1,0 @@
-pub mod May
-pub mod Did

@@ -55,10 +55,9 @@ one_ballot table ballots i {v} M l v-is =
     }
 
 -- item k is what its pair marks out
-pub ballot_here : (table : List ℕ) (k : ℕ) {at v : ℕ} → k < items_of table → at ≡ header_size table → v ≡ ballot_in table at k
-    → v ≡ ballot_at table k
+pub ballot_here : (table : List ℕ) (k : ℕ) {v : ℕ} → k < items_of table → v ≡ ballot_in table (header_size table) k → v ≡ ballot_at table k
 unfolding ballot_at
-ballot_here table k l at-is v-is = v-is ∙ ap (λ (o : ℕ). ballot_in table o k) at-is ∙ ap ballot_of (sym (text_of_lem table k l))
+ballot_here table k l v-is = v-is ∙ ap ballot_of (sym (text_of_lem table k l))
 
 -- there is no ballot past the items
 no_item : (table : List ℕ) (k : ℕ) → items_of table ≤ k → 0 ≡ ballot_at table k

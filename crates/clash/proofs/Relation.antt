@@ -2,6 +2,7 @@
 use Prim.Native.Nat.{ℕ}
 use mathlib.Core.Bool.{false, not}
 use mathlib.Core.List.{List}
+use Rattle.std.specs.Prelude.{Option, Some, None}
 use mathlib.Core.Path.{◌≡◌, refl, sym, ap, ◌∙◌}
 use borrow.Author.Tests.{ne_eqb}
 use Rattle.base.specs.Bytes.{same_bytes}
@@ -10,8 +11,7 @@ use Rattle.base.proofs.Bytes.{same_self, same_sym}
 use Rattle.ballot.specs.declared.item.Kind.{Kind}
 use Rattle.ballot.specs.declared.item.Kind.TheVariants.{Vote, Audit, PlacedAudit, Cancellation}
 use Rattle.ballot.specs.declared.item.Audits.{Audits}
-use Rattle.ballot.specs.declared.item.Reading.{Reading}
-use Rattle.ballot.specs.declared.item.Reading.TheVariants.{Good, Wrong}
+use Rattle.ballot.specs.declared.item.Item.{Item}
 use Rattle.ballot.specs.Item.{read_item}
 use Rattle.ballot.specs.Table.{audits_of, item_text}
 use Rattle.clash.specs.Clash.{kinds_clash, readings_clash, clash, clash_in, ballot_at}
@@ -37,11 +37,11 @@ kinds_sym Cancellation Audit = refl
 kinds_sym Cancellation (PlacedAudit q) = refl
 kinds_sym Cancellation Cancellation = refl
 
-readings_sym : (x y : Reading) → readings_clash x y ≡ readings_clash y x
-readings_sym Wrong Wrong = refl
-readings_sym Wrong (Good b) = refl
-readings_sym (Good a) Wrong = refl
-readings_sym (Good a) (Good b) = rw (eqb_sym a.ballot b.ballot, kinds_sym a.kind b.kind)
+readings_sym : (x y : Option Item) → readings_clash x y ≡ readings_clash y x
+readings_sym None None = refl
+readings_sym None (Some b) = refl
+readings_sym (Some a) None = refl
+readings_sym (Some a) (Some b) = rw (eqb_sym a.ballot b.ballot, kinds_sym a.kind b.kind)
 
 -- by their texts, whichever audits are items
 
@@ -62,13 +62,13 @@ unfolding clash_in clash ballot_at
 clash-other s i j x-is y-is other =
     rw (go (read i) (read j) refl refl) (sym (and_false (not (same_bytes (item_text s i) (item_text s j)))))
   where
-    read : ℕ → Reading
+    read : ℕ → Option Item
     read k = read_item (audits_of s) (item_text s k)
 
-    go : (v w : Reading) → read i ≡ v → read j ≡ w → readings_clash v w ≡ false
-    go Wrong w p q = refl
-    go (Good a) Wrong p q = refl
-    go (Good a) (Good b) p q =
+    go : (v w : Option Item) → read i ≡ v → read j ≡ w → readings_clash v w ≡ false
+    go None w p q = refl
+    go (Some a) None p q = refl
+    go (Some a) (Some b) p q =
         let own = x-is ∙ (good_read (audits_of s) (item_text s i) a p).says.ballot in
         let its = y-is ∙ (good_read (audits_of s) (item_text s j) b q).says.ballot in
         rw (ne_eqb a.ballot b.ballot (λ e. other (its ∙ sym e ∙ sym own)))

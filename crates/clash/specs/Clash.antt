@@ -1,6 +1,6 @@
 -- Clash is document 01's word for two different items of one ballot, neither a cancellation, at least one a vote. By
 -- document 02's P5 two audits of one ballot from different places clash too.
-use Rattle.std.specs.Prelude.{ℕ, ◌<◌, min, Bool, true, false, not, ◌&&◌, ◌||◌, List, ◌≡◌, eqb, length, get_or}
+use Rattle.std.specs.Prelude.{Option, Some, None, ℕ, ◌<◌, min, Bool, true, false, not, ◌&&◌, ◌||◌, List, ◌≡◌, eqb, length, get_or}
 use Rattle.base.specs.Bytes.{same_bytes}
 use Rattle.base.specs.Bits.{pack}
 use Rattle.base.specs.Tab.{tab}
@@ -8,8 +8,6 @@ use Rattle.ballot.specs.declared.item.Kind.{Kind}
 use Rattle.ballot.specs.declared.item.Kind.TheVariants.{Vote, Audit, PlacedAudit, Cancellation}
 use Rattle.ballot.specs.declared.item.Audits.{Audits}
 use Rattle.ballot.specs.declared.item.Item.{Item}
-use Rattle.ballot.specs.declared.item.Reading.{Reading}
-use Rattle.ballot.specs.declared.item.Reading.TheVariants.{Good, Wrong}
 use Rattle.header.specs.Header.{items_of}
 use Rattle.ballot.specs.Item.{ballot_of, read_item}
 use Rattle.ballot.specs.Table.{audits_of, item_text}
@@ -51,10 +49,10 @@ abbrev pub items_clash : Item → Item → Bool
 items_clash a b = eqb a.ballot b.ballot && kinds_clash a.kind b.kind
 
 -- both are items, and these clash
-abbrev pub readings_clash : Reading → Reading → Bool
-readings_clash Wrong y = false
-readings_clash (Good a) Wrong = false
-readings_clash (Good a) (Good b) = items_clash a b
+abbrev pub readings_clash : Option Item → Option Item → Bool
+readings_clash None y = false
+readings_clash (Some a) None = false
+readings_clash (Some a) (Some b) = items_clash a b
 
 -- the items with these texts clash: the texts differ, and what they say clashes
 unfoldable pub clash : Audits → List ℕ → List ℕ → Bool

@@ -3,10 +3,10 @@
 #![tactic(auto)]
 
 ghost use Rattle.std.specs.Prelude.{◌≡◌};
-ghost use Rattle.clash.specs.Clash.{is_vote, is_cancellation, other_place, places_differ, kinds_clash};
+ghost use Rattle.clash.specs.Clash.{is_vote, is_cancellation, places_differ, kinds_clash};
 ghost use Rattle.clash.specs.Clash.{items_clash, readings_clash, clash, clash_in};
 
-use ballot::item::{Audits, Item, Kind, Reading};
+use ballot::item::{Audits, Item, Kind};
 
 pub mod rows; // what clashes with each item
 
@@ -14,47 +14,23 @@ pub mod rows; // what clashes with each item
 fn is_vote(k: Kind) -> bool
     ensures { result ≡ is_vote k }
 {
-    match k {
-        Kind::Vote(_) => true,
-        Kind::Audit => false,
-        Kind::PlacedAudit(_) => false,
-        Kind::Cancellation => false,
-    }
+    matches!(k, Kind::Vote(_))
 }
 
 // Whether the kind is a cancellation.
 fn is_cancellation(k: Kind) -> bool
     ensures { result ≡ is_cancellation k }
 {
-    match k {
-        Kind::Vote(_) => false,
-        Kind::Audit => false,
-        Kind::PlacedAudit(_) => false,
-        Kind::Cancellation => true,
-    }
-}
-
-// Whether the kind is an audit from another place than this.
-fn other_place(place: u8, k: Kind) -> bool
-    ensures { result ≡ other_place place k }
-{
-    match k {
-        Kind::Vote(_) => false,
-        Kind::Audit => false,
-        Kind::PlacedAudit(other) => place != other,
-        Kind::Cancellation => false,
-    }
+    matches!(k, Kind::Cancellation)
 }
 
 // Whether both are audits, from different places.
 fn places_differ(a: Kind, b: Kind) -> bool
     ensures { result ≡ places_differ a b }
 {
-    match a {
-        Kind::Vote(_) => false,
-        Kind::Audit => false,
-        Kind::PlacedAudit(place) => other_place(place, b),
-        Kind::Cancellation => false,
+    match (a, b) {
+        (Kind::PlacedAudit(place), Kind::PlacedAudit(other)) => place != other,
+        _ => false,
     }
 }
 
@@ -62,60 +38,40 @@ fn places_differ(a: Kind, b: Kind) -> bool
 fn kinds_clash(a: Kind, b: Kind) -> bool
     ensures { result ≡ kinds_clash a b }
 {
-    if is_cancellation(a) {
-        return false;
-    }
-    if is_cancellation(b) {
-        return false;
-    }
-    if is_vote(a) {
-        return true;
-    }
-    if is_vote(b) {
-        return true;
-    }
-    places_differ(a, b)
+    !is_cancellation(a) && !is_cancellation(b) && (is_vote(a) || is_vote(b) || places_differ(a, b))
 }
 
 // Whether they are of one ballot, with kinds that clash.
 fn items_clash(a: Item, b: Item) -> bool
     ensures { result ≡ items_clash a b }
 {
-    if a.ballot != b.ballot {
-        return false;
-    }
-    let ka = a.kind;
-    let kb = b.kind;
-    kinds_clash(ka, kb)
+    a.ballot == b.ballot && kinds_clash(a.kind, b.kind)
 }
 
 // Whether both are items, and these clash.
-fn readings_clash(x: Reading, y: Reading) -> bool
+fn readings_clash(x: Option<Item>, y: Option<Item>) -> bool
     ensures { result ≡ readings_clash x y }
 {
-    match x {
-        Reading::Good(a) => match y {
-            Reading::Good(b) => items_clash(a, b),
-            Reading::Wrong => false,
-        },
-        Reading::Wrong => false,
+    match (x, y) {
+        (Some(a), Some(b)) => items_clash(a, b),
+        _ => false,
     }
 }
 
 // Whether the items with these texts clash.
+#[tactic(auto, using(base::proofs::Bytes::same_pointwise), unfolding(crate::specs::Clash::clash))]
 pub fn clashes(audits: Audits, a: &[u8], b: &[u8]) -> bool
     ensures { result ≡ clash audits a.now b.now }
 {
-    if base::same(a, b) {
-        return false;
-    }
-    readings_clash(
-        ballot::item::read_item(audits, a),
-        ballot::item::read_item(audits, b),
-    )
+    a != b
+        && readings_clash(
+            ballot::item::read_item(audits, a),
+            ballot::item::read_item(audits, b),
+        )
 }
 
 // Whether items i and j of the table clash.
+#[tactic(auto, unfolding(crate::specs::Clash::clash_in))]
 pub fn clash_in(table: &[u8], i: u8, j: u8) -> bool
     ensures { result ≡ clash_in table.now i j }
 {

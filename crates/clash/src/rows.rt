@@ -6,11 +6,7 @@ ghost use Rattle.clash.specs.Clash.{clash_in, mask_width, ballot_at, ballots_of,
 fn mask_width(table: &[u8]) -> u8
     ensures { result ≡ mask_width table.now }
 {
-    let m = header::items(table);
-    if m < 64 {
-        return m;
-    }
-    64
+    header::items(table).min(64)
 }
 
 // What bit j of a mask is worth.
@@ -22,6 +18,7 @@ fn worth(j: u8) -> u64
 }
 
 // The ballot number of item k.
+#[tactic(auto, unfolding(crate::specs::Clash::ballot_at))]
 fn ballot_at(table: &[u8], k: u8) -> u32
     ensures { result ≡ ballot_at table.now k }
 {
@@ -33,12 +30,10 @@ fn ballots_of(table: &[u8]) -> [u32; 64]
     ensures { result ≡ ballots_of table.now }
 {
     let width = mask_width(table);
-    let at = header::header_size(table);
+    let pairs = ballot::pairs_of(table);
     let mut ballots = [0; 64];
-    let mut k: u8 = 0;
-    while k < width {
-        ballots[k as usize] = ballot::item::ballot_in(table, at, k);
-        k += 1;
+    for k in 0..width {
+        ballots[k as usize] = ballot::item::ballot_in(pairs, k);
     }
     ballots
 }
@@ -48,10 +43,7 @@ fn clashes_at(table: &[u8], ballots: &[u32; 64], ballot: u32, i: u8, k: u8) -> b
     requires { (ballots.now ≡ ballots_of table.now) × (ballot ≡ ballot_at table.now i) × (k < 64) }
     ensures { result ≡ clash_in table.now i k }
 {
-    if ballots[k as usize] != ballot {
-        return false;
-    }
-    super::clash_in(table, i, k)
+    ballots[k as usize] == ballot && super::clash_in(table, i, k)
 }
 
 // The items that clash with item i, by the ballot numbers of all: bit j is item j.
@@ -62,12 +54,9 @@ fn mask_by(table: &[u8], ballots: &[u32; 64], i: u8) -> u64
     let ballot = ballot_at(table, i);
     let width = mask_width(table);
     let mut mask: u64 = 0;
-    let mut j: u8 = 0;
-    while j < width {
-        let item = j;
-        j += 1;
-        if clashes_at(table, ballots, ballot, i, item) {
-            mask += worth(item);
+    for j in 0..width {
+        if clashes_at(table, ballots, ballot, i, j) {
+            mask += worth(j);
         }
     }
     mask
@@ -87,10 +76,8 @@ pub fn clash_rows(table: &[u8]) -> [u64; 64]
 {
     let ballots = ballots_of(table);
     let mut rows = [0; 64];
-    let mut i: u8 = 0;
-    while i < 64 {
+    for i in 0..64u8 {
         rows[i as usize] = mask_by(table, &ballots, i);
-        i += 1;
     }
     rows
 }

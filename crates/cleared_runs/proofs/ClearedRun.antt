@@ -11,8 +11,8 @@ use Rattle.base.proofs.Truth.{split, false_true, either, and_l, and_r}
 use Rattle.rules.specs.declared.Entry.{Entry}
 use Rattle.rules.specs.declared.Step.{Step}
 use Rattle.rules.specs.declared.Step.TheVariants.{SendHash, FalseHash}
-use Rattle.rules.specs.declared.Call.{Call}
-use Rattle.rules.specs.declared.Call.TheVariants.{Formed, Malformed}
+use Rattle.rules.specs.Form.{Call}
+use Rattle.std.specs.Prelude.{Some, None}
 use Rattle.rules.specs.Table.{Table}
 use Rattle.rules.specs.Bag.{is_in, enter}
 use Rattle.rules.specs.State.{State, with_bag_lem}
@@ -37,8 +37,8 @@ unfolding clears with_call renumbered_call
 no_period_lem from to S c o a = go (read c) refl o
   where
     go : (x : Call) → read c ≡ x → clears x ≡ false → with_call S (read (translated from to c)) a ≡ S
-    go (Formed st) q o = rw (reads from to c, q, clear_same from to st, o)
-    go Malformed q o = rw (reads from to c, q)
+    go (Some st) q o = rw (reads from to c, q, clear_same from to st, o)
+    go None q o = rw (reads from to c, q)
 
 module _ (T : Table) where
   module _ (S : ℕ → Bool) where
@@ -58,9 +58,9 @@ module _ (T : Table) where
       rid_call n = go (read c) refl n
         where
           go : (x : Call) → read c ≡ x → eqb (reply T u x) 13 ≡ false → KeptCall u (rid u b h) c
-          go (Formed st) q n = let K = kept T S u b h L G H st n in record
+          go (Some st) q n = let K = kept T S u b h L G H st n in record
               { answers = rw (said, q, gone_said u.bag b c st q) K.answers; states = rw (said, q) K.states }
-          go Malformed q n = record { answers = rw (said, q, and-false (hears_gone u.bag b c)); states = rw (said, q) (λ o. L) }
+          go None q n = record { answers = rw (said, q, and-false (hears_gone u.bag b c)); states = rw (said, q) (λ o. L) }
 
       -- a hash that the bag lacks joins its end
       joins : (st : Step) (a : Entry) → (rule T (rid u b h) st).effect ≡ with_bag_lem (rid u b h) (enter a b) → answer T (rid u b h) st ≡ 0
@@ -96,8 +96,8 @@ module _ (T : Table) where
           go : (x : Call) → read c ≡ x → clears x ≡ true
               → let d = translated u.bag b c in Cleared T (with_call S (read d) (reply T (rid u b h) (read d))) u
               (leave T (rid u b h) (read d))
-          go (Formed st) q o = rw (said, q) (removed T S u b h L st (clear_same u.bag b st ∙ o))
-          go Malformed q o = false_true o
+          go (Some st) q o = rw (said, q) (removed T S u b h L st (clear_same u.bag b st ∙ o))
+          go None q o = false_true o
 
     module _ (u v : State) (C : Cleared T S u v) (G : Valid T u) (H : Valid T v) (c : List ℕ) where
       pub kept-call : eqb (reply T u (read c)) 13 ≡ false → KeptCall u v c

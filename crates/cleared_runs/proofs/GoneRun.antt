@@ -11,8 +11,8 @@ use Rattle.rules.specs.declared.Entry.{Entry}
 use Rattle.rules.specs.declared.Entry.TheVariants.{Hash, Backing, Board}
 use Rattle.rules.specs.declared.Step.{Step}
 use Rattle.rules.specs.declared.Step.TheVariants.{SendHash, Hear, Back, Publish, FalseHash, FalseBacking, ClearHashes}
-use Rattle.rules.specs.declared.Call.{Call}
-use Rattle.rules.specs.declared.Call.TheVariants.{Formed, Malformed}
+use Rattle.rules.specs.Form.{Call}
+use Rattle.std.specs.Prelude.{Some, None}
 use Rattle.rules.specs.Table.{Table}
 use Rattle.rules.specs.Bag.{same_entry, is_in, is_hash, is_backing, entry_at, no_entry, period_of, board_of, enter, is_hash_of, without_hashes}
 use Rattle.rules.specs.State.{State}
@@ -211,8 +211,8 @@ module _ (T : Table) (S : ℕ → Bool) (gone : Entry → Bool) where
         where
           go : (x : Call) → read c ≡ x → eqb (reply T u x) 13 ≡ false → clears x ≡ false
               → Exactly (gone_call T v (read d) (reply T v (read d)) gone) (leave T u (read c)).bag (leave T v (read d)).bag
-          go (Formed st) q n o = rw (reads u.bag b c, q) (exact_step st n o)
-          go Malformed q n o = rw (reads u.bag b c, q) I
+          go (Some st) q n o = rw (reads u.bag b c, q) (exact_step st n o)
+          go None q n o = rw (reads u.bag b c, q) I
 
       clear_rid : clears (read c) ≡ true
           → Exactly (gone_call T v (read d) (reply T v (read d)) gone) u.bag (leave T v (read d)).bag
@@ -221,8 +221,8 @@ module _ (T : Table) (S : ℕ → Bool) (gone : Entry → Bool) where
         where
           go : (x : Call) → read c ≡ x → clears x ≡ true
               → Exactly (gone_call T v (read d) (reply T v (read d)) gone) u.bag (leave T v (read d)).bag
-          go (Formed st) q o = rw (reads u.bag b c, q) (clear_step st (clear_same u.bag b st ∙ o))
-          go Malformed q o = false_true o
+          go (Some st) q o = rw (reads u.bag b c, q) (clear_step st (clear_same u.bag b st ∙ o))
+          go None q o = false_true o
 
   module _ (u v : State) (C : Cleared T S u v) (G : Valid T u) (H : Valid T v) (I : Exactly gone u.bag v.bag) (c : List ℕ) where
     exact_call : eqb (reply T u (read c)) 13 ≡ false → clears (read c) ≡ false → let d = translated u.bag v.bag c in

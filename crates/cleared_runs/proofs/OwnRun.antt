@@ -13,7 +13,7 @@ use Rattle.base.specs.Bytes.{byte_at}
 use Rattle.base.proofs.Truth.{either, and_l, and_r}
 use Rattle.rules.specs.declared.Entry.{Entry}
 use Rattle.rules.specs.declared.Step.TheVariants.{Hear, Publish}
-use Rattle.rules.specs.declared.Call.{Call}
+use Rattle.rules.specs.Form.{Call}
 use Rattle.rules.specs.Table.{Table}
 use Rattle.rules.specs.Bag.{is_in, entry_at, place_in, no_entry}
 use Rattle.rules.specs.State.{State}

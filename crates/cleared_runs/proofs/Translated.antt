@@ -14,8 +14,8 @@ use Rattle.base.proofs.Truth.{true_false, either, is_false, and_l, and_r}
 use Rattle.rules.specs.declared.Entry.{Entry}
 use Rattle.rules.specs.declared.Step.{Step}
 use Rattle.rules.specs.declared.Step.TheVariants.{Post, Hand, Sign, Take, Share, Receipt, Close, Fetch, SendHash, Hear, Back, Publish, FalseSignature, FalseShare, FalseHash, FalseBacking, Down, Up, ClearHashes}
-use Rattle.rules.specs.declared.Call.{Call}
-use Rattle.rules.specs.declared.Call.TheVariants.{Formed, Malformed}
+use Rattle.rules.specs.Form.{Call}
+use Rattle.std.specs.Prelude.{Some, None}
 use Rattle.rules.specs.Bag.{is_in, entry_at}
 use Rattle.rules.specs.Form.{all_zero, formed, select, later_ops, ops, read}
 use Rattle.rules.specs.Fields.{fields}
@@ -128,11 +128,11 @@ module _ (from to : List Entry) where
   hearing st = eqb (fields st).op 10 && not (is_in (entry_at from (fields st).item) to)
 
   unfoldable pub renumbered_call : Call → Call
-  renumbered_call (Formed st) = Formed (renumbered st)
-  renumbered_call Malformed = Malformed
+  renumbered_call (Some st) = Some (renumbered st)
+  renumbered_call None = None
 
   -- whether a call hears an entry that is gone is whether its step does
-  pub gone_said : (c : List ℕ) (st : Step) → read c ≡ Formed st → hears_gone from to c ≡ hearing st
+  pub gone_said : (c : List ℕ) (st : Step) → read c ≡ Some st → hears_gone from to c ≡ hearing st
   unfolding hears_gone
   gone_said c st said = rw (op_of_lem c st said 10, item_said c st said)
 
@@ -174,8 +174,8 @@ module _ (from to : List Entry) where
   plain_reads c not10 not12 = rw (not10, not12) (go (read c) refl)
     where
       go : (x : Call) → read c ≡ x → x ≡ renumbered_call x
-      go (Formed st) said = ap Formed (sym (plain st (sym (op_of_lem c st said 10) ∙ not10) (sym (op_of_lem c st said 12) ∙ not12)))
-      go Malformed said = refl
+      go (Some st) said = ap Some (sym (plain st (sym (op_of_lem c st said 10) ∙ not10) (sym (op_of_lem c st said 12) ∙ not12)))
+      go None said = refl
 
   pub reads : (c : List ℕ) → Reads c
   reads c = go (either (is_op 10 c)) (either (is_op 12 c))

@@ -7,8 +7,8 @@ use Rattle.rules.specs.declared.Entry.{Entry}
 use Rattle.rules.specs.declared.Entry.TheVariants.{Hash, Backing, Board}
 use Rattle.rules.specs.declared.Step.{Step}
 use Rattle.rules.specs.declared.Step.TheVariants.{SendHash, FalseHash}
-use Rattle.rules.specs.declared.Call.{Call}
-use Rattle.rules.specs.declared.Call.TheVariants.{Formed, Malformed}
+use Rattle.rules.specs.Form.{Call}
+use Rattle.std.specs.Prelude.{Some, None}
 use Rattle.rules.specs.Table.{Table}
 use Rattle.rules.specs.Bag.{is_in, entry_at, place_in, is_hash, period_of}
 use Rattle.rules.specs.State.{State, with_bag_lem, with_heard}
@@ -24,13 +24,13 @@ abbrev pub is_clear : Step → Bool
 is_clear st = eqb (fields st).op 19
 
 unfoldable pub clears : Call → Bool
-clears (Formed st) = is_clear st
-clears Malformed = false
+clears (Some st) = is_clear st
+clears None = false
 
 -- the periods of S, and that of a clear which is answered 0
 unfoldable pub with_call : (ℕ → Bool) → Call → ℕ → ℕ → Bool
-with_call S (Formed st) a = cond (is_clear st && eqb a 0) (add1 (fields st).period S) S
-with_call S Malformed a = S
+with_call S (Some st) a = cond (is_clear st && eqb a 0) (add1 (fields st).period S) S
+with_call S None a = S
 
 -- the calls without the clears
 unfoldable pub uncleared : List (List ℕ) → List (List ℕ)
@@ -107,8 +107,8 @@ answer_with from to c a = cond (hears_gone from to c && eqb a 0) 10 a
 
 -- the call sends the hash a, a peer's own or a false one
 pub data Sends (T : Table) (s : State) (c : Call) (a : Entry) : Type 0 where
-  own : (j p : ℕ) → c ≡ Formed (SendHash j p) → a ≡ Hash j p (board_by T s j p) → Sends T s c a
-  falsely : (j p B : ℕ) → c ≡ Formed (FalseHash j p B) → a ≡ Hash j p B → Sends T s c a
+  own : (j p : ℕ) → c ≡ Some (SendHash j p) → a ≡ Hash j p (board_by T s j p) → Sends T s c a
+  falsely : (j p B : ℕ) → c ≡ Some (FalseHash j p B) → a ≡ Hash j p B → Sends T s c a
 
 -- What holds of the two runs after the calls, where u is the store without clears, v the one with them, and S the
 -- periods that were cleared; and of any call c that comes next.

@@ -4,13 +4,14 @@ use Rattle.std.specs.Prelude.{ℕ, Bool, true, false, cond, ◌&&◌, ◌||◌, 
 use Rattle.rules.specs.declared.Entry.{Entry}
 use Rattle.rules.specs.declared.Entry.TheVariants.{Hash}
 use Rattle.rules.specs.declared.Step.{Step}
-use Rattle.rules.specs.declared.Call.{Call}
-use Rattle.rules.specs.declared.Call.TheVariants.{Formed, Malformed}
+use Rattle.rules.specs.Form.{Call}
+use Rattle.std.specs.Prelude.{Some, None}
 use Rattle.rules.specs.Table.{Table}
 use Rattle.rules.specs.Bag.{same_entry, is_in, is_hash, is_hash_of}
 use Rattle.rules.specs.State.{State}
 use Rattle.rules.specs.Form.{read}
-use Rattle.rules.specs.Fields.{Fields, fields}
+use Rattle.rules.specs.declared.Fields.{Fields}
+use Rattle.rules.specs.Fields.{fields}
 use Rattle.rules.specs.Rules.{board_by}
 use Rattle.rules.specs.Run.{Engine}
 use Rattle.cleared_runs.specs.Cleared.{translated_from}
@@ -27,8 +28,8 @@ gone_with T s st gone a =
     (cond (eqb f.op 9 || eqb f.op 15) (not (same_entry a (hash_sent T s f)) && gone a) (gone a))
 
 unfoldable pub gone_call : Table → State → Call → ℕ → (Entry → Bool) → Entry → Bool
-gone_call T s (Formed st) r gone = cond (eqb r 0) (gone_with T s st gone) gone
-gone_call T s Malformed r gone = gone
+gone_call T s (Some st) r gone = cond (eqb r 0) (gone_with T s st gone) gone
+gone_call T s None r gone = gone
 
 module _ (T : Table) {X : Type 0} (E : Engine X) where
   -- along a list of calls, as the run with clears gets them

@@ -1,4 +1,5 @@
 -- The numbers of the entries that stay, listed from the bag's front: none yet, one more, all.
+use mir.Val.{bool_byte}
 use Prim.Native.Nat.{ℕ, zero, suc, ◌+◌, ◌^◌, ◌<◌, ◌≤◌}
 use native.Mathlib.Decide.{ℕ_discrete}
 use native.Mathlib.Numerals.{add-one}
@@ -36,15 +37,18 @@ module _ (s : List ℕ) (e q : ℕ) (c : Canon s) (l : e < length (bag_on s)) wh
       let m : e < count s = omega (arith, bag_length s) in
       ap (is_hash_of q) (entry_nth s e m) ∙ hash_test q (entry_at s e) ∙ rw (entry_period s e, (c.settled e m).kind)
 
-  pub other_period : (byte_at s (entry_start e + period_in) ≡ q → ⊥) → 1 ≡ digit (not (is_hash_of q (nth (bag_on s) e)))
+  pub other_period : (byte_at s (entry_start e + period_in) ≡ q → ⊥)
+      → not (eqb (byte_at s (entry_start e + period_in)) q) ≡ not (is_hash_of q (nth (bag_on s) e))
   other_period n = rw (byte_test, ne_eqb _ _ n)
 
-  pub other_kind : (byte_at s (entry_start e) ≡ hash_kind → ⊥) → 1 ≡ digit (not (is_hash_of q (nth (bag_on s) e)))
-  other_kind n = rw (byte_test, ne_eqb _ _ n, and_false (eqb (byte_at s (entry_start e + period_in)) q))
+  pub its_period : byte_at s (entry_start e + period_in) ≡ q
+      → not (eqb (byte_at s (entry_start e)) hash_kind) ≡ not (is_hash_of q (nth (bag_on s) e))
+  its_period p = rw (byte_test, eq-eqb _ _ p)
 
-  pub it_goes : byte_at s (entry_start e + period_in) ≡ q → byte_at s (entry_start e) ≡ hash_kind
-      → 0 ≡ digit (not (is_hash_of q (nth (bag_on s) e)))
-  it_goes p k = rw (byte_test, eq-eqb _ _ p, eq-eqb _ _ k)
+-- a test as a number
+pub as_digit : (b : Bool) → bool_byte b ≡ digit b
+as_digit true = refl
+as_digit false = refl
 
 -- where these bytes are read
 

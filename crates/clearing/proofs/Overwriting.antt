@@ -134,9 +134,6 @@ module _ (s t u old : List ℕ) (w : ℕ) (M : Moved s t old w) where
           ∙ ap (nth (bag_on t)) e ∙ M.others (byte_at old w) (up.from w l))
       go i m (no z) = ap (λ b. nth b i) bag ∙ get_or-set_other (bag_on t) w i (nth (bag_on t) v) no_entry z ∙ M.moved i (omega (arith, z))
 
-pub moved_all : (s t old : List ℕ) (w n : ℕ) → Moved s t old w → w ≤ n → n ≤ w → Moved s t old n
-moved_all s t old w n M l m = subst (λ (k : ℕ). Moved s t old k) (omega arith) M
-
 pub still_long : (s t old : List ℕ) (w : ℕ) → Canon s → Moved s t old w → length t ≡ length s
 still_long s t old w c M = M.holds.canon.long ∙ sym c.long
 

@@ -1,11 +1,11 @@
 -- Bytes written 0 one after the other; and the bag cut to its first entries.
 use Prim.Native.Nat.{ℕ, ◌+◌, ◌<◌, ◌≤◌}
-use native.Mathlib.Decide.{ℕ_discrete, dec_lt}
+use native.Mathlib.Decide.{dec_lt}
 use native.Mathlib.Omega.{arith}
 use mathlib.Core.List.{List}
-use mathlib.Core.Path.{◌≡◌, refl, sym, ap, subst, fun_ext, ◌∙◌}
-use lib.ListN.{length, set, take, length-set}
-use lib.Seq.{get_or-set_same, get_or-set_other, ext_get_or, length-take-le, get_or-take}
+use mathlib.Core.Path.{◌≡◌, sym, ap, subst, fun_ext, ◌∙◌}
+use lib.ListN.{length, take}
+use lib.Seq.{ext_get_or, length-take-le, get_or-take}
 use Rattle.base.specs.Bytes.{byte_at}
 use Rattle.base.specs.Tab.{tab}
 use Rattle.base.proofs.Tab.{length-tab, get_or-tab}
@@ -19,23 +19,6 @@ use Rattle.state.specs.Cleared.{with_bag}
 use Rattle.state.proofs.Encode.{bag_length}
 use Rattle.state.proofs.Frame as frame
 use Rattle.clearing.specs.Moves.{Zeroed}
-
-pub zeroed_none : (s : List ℕ) (from : ℕ) → Zeroed s s from from
-zeroed_none s from = record { long = refl; zeros = λ i l m. absurd (omega arith); others = λ i h. refl }
-
-pub zeroed_more : (s t : List ℕ) (from i to : ℕ) → Zeroed s t from i → from ≤ i → to ≤ length s → i < to → Zeroed s (set t i 0) from (i + 1)
-zeroed_more s t from i to Z l room m = record {
-  long = length-set t i 0 ∙ Z.long;
-  zeros = λ k p q. go k p q (ℕ_discrete k i);
-  others = λ k h. get_or-set_other t i k 0 0 (λ z. omega (arith, h (omega arith))) ∙ Z.others k (λ p. omega (arith, h p));
-}
-  where
-    go : (k : ℕ) → from ≤ k → k < i + 1 → Dec (k ≡ i) → byte_at (set t i 0) k ≡ 0
-    go k p q (yes z) = rw z (get_or-set_same t i 0 0 (omega (arith, Z.long)))
-    go k p q (no z) = get_or-set_other t i k 0 0 z ∙ Z.zeros k p (omega (arith, z))
-
-pub zeroed_all : (s t : List ℕ) (from i to : ℕ) → Zeroed s t from i → i ≤ to → to ≤ i → Zeroed s t from to
-zeroed_all s t from i to Z l m = subst (λ (k : ℕ). Zeroed s t from k) (omega arith) Z
 
 module _ (s u : List ℕ) (n : ℕ) (c : Canon s) (few : n ≤ count s) (Z : Zeroed s u (entry_start n) (entry_start (count s))) where
   t : List ℕ

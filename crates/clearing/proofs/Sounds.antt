@@ -3,7 +3,7 @@ use Prim.Native.Nat.{ℕ, ◌+◌, ◌-◌, ◌*◌, ◌%◌, ◌^◌, ◌<◌, 
 use native.Mathlib.Omega.{arith}
 use mathlib.Core.Bool.{Bool, false}
 use mathlib.Core.List.{List}
-use mathlib.Core.Path.{◌≡◌, refl, sym, ap, ◌∙◌}
+use mathlib.Core.Path.{◌≡◌, refl, sym, ◌∙◌}
 use borrow.Author.Tests.{lt-ltb, le-ltb}
 use Rattle.base.specs.Bits.{digit, pack}
 use Rattle.base.specs.Bytes.{byte_at}
@@ -17,10 +17,10 @@ module _ (s old : List ℕ) (n : ℕ) where
   unfolding heard_bit
   no_bit a l = rw (le-ltb (a % entries) n l)
 
-  pub a_bit : (a v : ℕ) {r : Bool} → a % entries < n → v ≡ byte_at old (a % entries)
-      → r ≡ bit_at s (8 * heard_at + (a - a % entries + v)) → r ≡ heard_bit s old n a
+  pub a_bit : (a : ℕ) {r : Bool} → a % entries < n → r ≡ bit_at s (8 * heard_at + (a - a % entries + byte_at old (a % entries)))
+      → r ≡ heard_bit s old n a
   unfolding heard_bit
-  a_bit a v l e h = h ∙ rw (lt-ltb (a % entries) n l, e)
+  a_bit a l h = h ∙ rw (lt-ltb (a % entries) n l)
 
   -- where the first of its numbers is none of the n, none is
   pub no_byte : (b : ℕ) → n ≤ 8 * b % entries → 0 ≡ heard_byte s old n b
@@ -34,13 +34,7 @@ module _ (s old : List ℕ) (n : ℕ) where
   pub bits_lt : (b k v : ℕ) → v ≡ pack k (heard_bits s old n b) → v < 2 ^ k
   bits_lt b k v e = omega (arith, pack-lt k (heard_bits s old n b))
 
-  pub bits_more : (b k v r x : ℕ) {y : Bool} → v ≡ pack k (heard_bits s old n b) → x ≡ k → y ≡ heard_bit s old n (8 * b + x)
+  pub bits_more : (b k v r : ℕ) {y : Bool} → v ≡ pack k (heard_bits s old n b) → y ≡ heard_bit s old n (8 * b + k)
       → r ≡ v + digit y * 2 ^ k → r ≡ pack (k + 1) (heard_bits s old n b)
   unfolding heard_bits
-  bits_more b k v r x {y} e q h d =
-      let same : y ≡ heard_bit s old n (8 * b + k) = h ∙ ap (λ (z : ℕ). heard_bit s old n (8 * b + z)) q in
-      d ∙ rw (same, e) (sym (pack_more k (heard_bits s old n b)))
-
-  pub bits_all : (b k v : ℕ) → v ≡ pack k (heard_bits s old n b) → k ≤ 8 → 8 ≤ k → v ≡ heard_byte s old n b
-  unfolding heard_byte
-  bits_all b k v e l m = e ∙ ap (λ (z : ℕ). pack z (heard_bits s old n b)) (omega arith)
+  bits_more b k v r {y} e h d = d ∙ rw (h, e) (sym (pack_more k (heard_bits s old n b)))

@@ -13,22 +13,15 @@ ghost use Rattle.state.specs.Cleared.{afresh, hearing, with_bag, cleared};
 ghost use Rattle.clearing.specs.Moves.{Numbers, Rising, heard_bit, heard_byte, Zeroed, Moved};
 
 use bag::bag_len;
-use base::wide;
 use state::layout;
 
-// 1 where entry e stays, 0 where it is a hash of period p.
-fn stays(s: &[u8], e: usize, p: u8) -> usize
+// Whether entry e stays: it is no hash of period p.
+fn stays(s: &[u8], e: usize, p: u8) -> bool
     requires { Canon s.now × (e < length (bag_on s.now)) }
-    ensures { (result ≡ digit (not (is_hash_of p (nth (bag_on s.now) e)))) × (result ≤ 1) }
+    ensures { result ≡ not (is_hash_of p (nth (bag_on s.now) e)) }
 {
     let o = layout::BAG + layout::ENTRY_SIZE * e;
-    if s[o + layout::PERIOD_IN] != p {
-        return 1;
-    }
-    if s[o] != layout::HASH {
-        return 1;
-    }
-    0
+    s[o + layout::PERIOD_IN] != p || s[o] != layout::HASH
 }
 
 // Lists the numbers of the entries that stay, and gives how many they are.
@@ -36,13 +29,10 @@ fn list_kept(s: &[u8], p: u8, old: &mut [u8]) -> usize
     requires { Canon s.now × (length old.old ≡ entries) }
     ensures { Numbers p (bag_on s.now) old.new result }
 {
-    let n = bag_len(s);
     let mut w = 0;
-    let mut e = 0;
-    while e < n {
+    for e in 0..bag_len(s) {
         old[w] = e as u8;
-        w += stays(s, e, p);
-        e += 1;
+        w += stays(s, e, p) as usize;
     }
     w
 }
@@ -56,7 +46,7 @@ fn heard_bit(s: &[u8], old: &[u8; 256], n: usize, a: usize) -> bool
     if n <= e {
         return false;
     }
-    bits::has(s, 8 * layout::HEARD + (a - e + wide(old[e])))
+    bits::has(s, 8 * layout::HEARD + (a - e + old[e] as usize))
 }
 
 // A byte of bits below k, and bit k if told so.
@@ -76,10 +66,8 @@ fn heard_byte(s: &[u8], old: &[u8; 256], n: usize, b: usize) -> u8
         return 0;
     }
     let mut v: u8 = 0;
-    let mut k: u8 = 0;
-    while k < 8 {
-        v = with_bit(v, k, heard_bit(s, old, n, 8 * b + wide(k)));
-        k += 1;
+    for k in 0..8u8 {
+        v = with_bit(v, k, heard_bit(s, old, n, 8 * b + k as usize));
     }
     v
 }
@@ -90,10 +78,8 @@ fn renumber(s: &mut [u8], old: &[u8; 256], n: usize)
     ensures { Holds s.new (hearing
         (afresh n (byte_at old.now) (contents s.old).has) (contents s.old)) }
 {
-    let mut b: usize = 0;
-    while b < 512 {
+    for b in 0..512usize {
         s[layout::HEARD + b] = heard_byte(s, old, n, b);
-        b += 1;
     }
 }
 
@@ -112,10 +98,8 @@ fn move_kept(s: &mut [u8], old: &[u8; 256], n: usize)
     requires { Canon s.old × Rising n old.now (length (bag_on s.old)) }
     ensures { Moved s.old s.new old.now n }
 {
-    let mut w: usize = 0;
-    while w < n {
-        move_entry(s, w, wide(old[w]));
-        w += 1;
+    for w in 0..n {
+        move_entry(s, w, old[w] as usize);
     }
 }
 
@@ -124,11 +108,7 @@ fn zero(s: &mut [u8], from: usize, to: usize)
     requires { (from ≤ to) × (to ≤ length s.old) }
     ensures { Zeroed s.old s.new from to }
 {
-    let mut i = from;
-    while i < to {
-        s[i] = 0;
-        i += 1;
-    }
+    s[from..to].fill(0);
 }
 
 // Leaves the first n entries.

@@ -14,8 +14,8 @@ use Rattle.base.proofs.Truth.{split, false_true, and_i, and_l, and_r, or_cases, 
 use Rattle.rules.specs.declared.Entry.TheVariants.{Hash}
 use Rattle.rules.specs.declared.Step.{Step}
 use Rattle.rules.specs.declared.Step.TheVariants.{Take, Fetch, SendHash, Hear, Back, Down}
-use Rattle.rules.specs.declared.Call.{Call}
-use Rattle.rules.specs.declared.Call.TheVariants.{Formed}
+use Rattle.rules.specs.Form.{Call}
+use Rattle.std.specs.Prelude.{Some}
 use Rattle.rules.specs.Table.{Table, quorum}
 use Rattle.rules.specs.Bag.{same_entry, entry_at}
 use Rattle.rules.specs.State.{State}
@@ -87,23 +87,23 @@ module _ {T : Table} {E : Behaviour} (O : Obeys T E) (p : ℕ) (P : Plan) (earli
 
   -- the places
 
-  stands : (i : ℕ) (st : Step) → (fields st).board ≡ 0 → stands_at T p P begin later i st ≡ true → step_at later i ≡ Formed st
+  stands : (i : ℕ) (st : Step) → (fields st).board ≡ 0 → stands_at T p P begin later i st ≡ true → step_at later i ≡ Some st
   stands i st plain e = ap read (eq_of_same (call_at later i) (written st) e) ∙ read-written st (omega (arith, plain))
 
-  fetches : (j k : ℕ) → Peer T j → Peer T k → (j ≡ k → ⊥) → step_at later (P.fetch_at j k) ≡ Formed (Fetch j k p)
+  fetches : (j k : ℕ) → Peer T j → Peer T k → (j ≡ k → ⊥) → step_at later (P.fetch_at j k) ≡ Some (Fetch j k p)
   fetches j k hj hk d = stands (P.fetch_at j k) (Fetch j k p) refl
       (other j k _ (of-pairs T (λ j k. eqb j k || stands_at T p P begin later (P.fetch_at j k) (Fetch j k p)) K.fetches j k hj hk) d)
 
-  sends : (j : ℕ) → Peer T j → step_at later (P.hash_at j) ≡ Formed (SendHash j p)
+  sends : (j : ℕ) → Peer T j → step_at later (P.hash_at j) ≡ Some (SendHash j p)
   sends j h = stands (P.hash_at j) (SendHash j p) refl
       (of-peers T (λ j. stands_at T p P begin later (P.hash_at j) (SendHash j p)) K.sends j h)
 
-  hears : (j k : ℕ) → Peer T j → Peer T k → P.listens j k ≡ true → step_at later (P.hear_at j k) ≡ Formed (Hear j (P.entry j k))
+  hears : (j k : ℕ) → Peer T j → Peer T k → P.listens j k ≡ true → step_at later (P.hear_at j k) ≡ Some (Hear j (P.entry j k))
   hears j k hj hk w =
       let test : ℕ → ℕ → Bool = λ j k. not (P.listens j k) || stands_at T p P begin later (P.hear_at j k) (Hear j (P.entry j k)) in
       stands (P.hear_at j k) (Hear j (P.entry j k)) refl (imp_e (P.listens j k) _ (of-pairs T test K.hears j k hj hk) w)
 
-  backs : (j : ℕ) → Peer T j → step_at later (P.back_at j) ≡ Formed (Back j)
+  backs : (j : ℕ) → Peer T j → step_at later (P.back_at j) ≡ Some (Back j)
   backs j h = stands (P.back_at j) (Back j) refl (of-peers T (λ j. stands_at T p P begin later (P.back_at j) (Back j)) K.backs j h)
 
   -- what is held there
@@ -154,7 +154,7 @@ module _ {T : Table} {E : Behaviour} (O : Obeys T E) (p : ℕ) (P : Plan) (earli
       let here = subst (λ (c : Call). where_backed T p P begin later f i (now i) c ≡ true) b.called all in
       let said = sym (O.answers (earlier ++ take i later) (call_at later i)) ∙ b.taken in
       let zero = subst (λ (c : Call). reply T (now i) c ≡ 0) b.called said in
-      imp_e (eqb 11 11 && eqb (reply T (now i) (Formed (Back j))) 0) _ here (and_i _ _ refl (eq-eqb _ 0 zero))
+      imp_e (eqb 11 11 && eqb (reply T (now i) (Some (Back j))) 0) _ here (and_i _ _ refl (eq-eqb _ 0 zero))
 
   late : (j k : ℕ) → Peer T j → Peer T k → (j ≡ k → ⊥) → (i : ℕ) → BacksAt T E earlier later p i j → P.fetch_at j k < i
   late j k hj hk d i b =
@@ -177,7 +177,7 @@ module _ {T : Table} {E : Behaviour} (O : Obeys T E) (p : ℕ) (P : Plan) (earli
     none_early = late;
   }
 
-  none_down : (i j : ℕ) → Peer T j → step_at later i ≡ Formed (Down j) → ⊥
+  none_down : (i j : ℕ) → Peer T j → step_at later i ≡ Some (Down j) → ⊥
   none_down i j h e =
       let all = passed O (λ i s c. not (eqb (said_in c).op 17)) earlier later K.none_down i (in_list later i (Down j) e) in
       let here : false ≡ true = subst (λ (c : Call). not (eqb (said_in c).op 17) ≡ true) e all in

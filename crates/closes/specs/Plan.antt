@@ -5,12 +5,13 @@ use Rattle.base.specs.Bytes.{same_bytes}
 use Rattle.rules.specs.declared.Entry.TheVariants.{Hash}
 use Rattle.rules.specs.declared.Step.{Step}
 use Rattle.rules.specs.declared.Step.TheVariants.{Fetch, SendHash, Hear, Back}
-use Rattle.rules.specs.declared.Call.{Call}
-use Rattle.rules.specs.declared.Call.TheVariants.{Formed, Malformed}
+use Rattle.rules.specs.Form.{Call}
+use Rattle.std.specs.Prelude.{Some, None}
 use Rattle.rules.specs.Table.{Table, quorum}
 use Rattle.rules.specs.Bag.{same_entry, entry_at}
 use Rattle.rules.specs.State.{State}
-use Rattle.rules.specs.Fields.{Fields, of, fields}
+use Rattle.rules.specs.declared.Fields.{Fields}
+use Rattle.rules.specs.Fields.{of, fields}
 use Rattle.rules.specs.Form.{read}
 use Rattle.rules.specs.Rules.{reply, leave, board_by}
 use Rattle.form.specs.Written.{written}
@@ -28,8 +29,8 @@ pub record Plan : Type 0 where
 
 -- the fields of what a call says; bytes that are no step have none
 abbrev pub said_in : Call → Fields
-said_in (Formed st) = fields st
-said_in Malformed = of 0 0 0 0 0 0
+said_in (Some st) = fields st
+said_in None = of 0 0 0 0 0 0
 
 -- every peer of a table passes a test, and every pair of peers
 abbrev pub peers : Table → (ℕ → Bool) → Bool

@@ -1,4 +1,1 @@
-pub mod OwnBoard
-pub mod Raised
-pub mod May
-pub mod Did
+pub mod Entered

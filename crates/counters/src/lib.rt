@@ -22,7 +22,7 @@ fn closed(k: Counters) -> Counters
 {
     Counters {
         current: k.current + 1,
-        to_back: k.to_back,
+        ..k
     }
 }
 
@@ -32,8 +32,8 @@ fn backed(k: Counters) -> Counters
     ensures { result ≡ rise_to_back k }
 {
     Counters {
-        current: k.current,
         to_back: k.to_back + 1,
+        ..k
     }
 }
 

@@ -21,7 +21,8 @@ use Rattle.rules.specs.Bag.{is_in, is_hash, entry_at, no_entry, capacity, is_ful
 use Rattle.rules.specs.State.{State}
 use Rattle.rules.specs.Rules.{rule, answer, next}
 use Rattle.rules.specs.Valid.{Peer}
-use Rattle.rules.specs.Fields.{Fields, fields}
+use Rattle.rules.specs.declared.Fields.{Fields}
+use Rattle.rules.specs.Fields.{fields}
 use Rattle.rules.specs.ByRow.{by_row}
 use Rattle.rules.proofs.Backed.{yet, all_backed}
 use Rattle.rules.proofs.Bag.{in_without}

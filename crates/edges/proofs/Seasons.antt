@@ -6,6 +6,7 @@ use native.Mathlib.Omega.{arith}
 use mathlib.Core.Bool.{true, false, not, ◌&&◌}
 use mathlib.Core.List.{List, [], ◌∷◌}
 use mathlib.Core.Logic.{◌⊎◌, inl, inr}
+use Rattle.std.specs.Prelude.{Option, Some, None}
 use mathlib.Core.Path.{◌≡◌, refl, sym, ap, ◌∙◌}
 use lib.Dec.{leb, eqb}
 use lib.ListN.{length}
@@ -25,8 +26,6 @@ use Rattle.ballot.specs.declared.item.Kind.{Kind}
 use Rattle.ballot.specs.declared.item.Kind.TheVariants.{Vote, Audit, PlacedAudit, Cancellation}
 use Rattle.ballot.specs.declared.item.Audits.TheVariants.{Bare, Placed}
 use Rattle.ballot.specs.declared.item.Item.{Item}
-use Rattle.ballot.specs.declared.item.Reading.{Reading}
-use Rattle.ballot.specs.declared.item.Reading.TheVariants.{Good, Wrong}
 use Rattle.ballot.specs.Item.{ballot_of, kind_byte, place_of, read_kind, read_item, reading_number, is_item, item_at, all_items, takes}
 use Rattle.ballot.specs.Table.{audits_in, audits_of, table_pairs_ok, item_below, item_text, items_ok, no_twins, refusal}
 use Rattle.ballot.proofs.Readings.{good_read, read_good}
@@ -59,10 +58,10 @@ clash_same : (a b : List ℕ) → clash Bare a b ≡ one.clash a b
 unfolding clash read_item read_kind
 clash_same a b = ap (λ r. not (same_bytes a b) && r) (go (read_item Bare a) (read_item Bare b) refl refl)
   where
-    go : (v w : Reading) → read_item Bare a ≡ v → read_item Bare b ≡ w → readings_clash v w ≡ one.readings_clash v w
-    go Wrong w p q = refl
-    go (Good x) Wrong p q = refl
-    go (Good x) (Good y) p q = rw (kinds_same x.kind y.kind (good_read Bare a x p).taken)
+    go : (v w : Option Item) → read_item Bare a ≡ v → read_item Bare b ≡ w → readings_clash v w ≡ one.readings_clash v w
+    go None w p q = refl
+    go (Some x) None p q = refl
+    go (Some x) (Some y) p q = rw (kinds_same x.kind y.kind (good_read Bare a x p).taken)
 
 -- a table that does not start with 0
 
@@ -204,7 +203,7 @@ module _ (s : List ℕ) where
 abbrev audit_by : ℕ → ℕ → Item
 audit_by n p = record { ballot = n; kind = PlacedAudit p }
 
-clash_by_place : (x y : List ℕ) (n p q : ℕ) → read_item Placed x ≡ Good (audit_by n p) → read_item Placed y ≡ Good (audit_by n q)
+clash_by_place : (x y : List ℕ) (n p q : ℕ) → read_item Placed x ≡ Some (audit_by n p) → read_item Placed y ≡ Some (audit_by n q)
     → clash Placed x y ≡ not (eqb p q)
 unfolding clash
 clash_by_place x y n p q x-read y-read = rw (x-read, y-read, eqb_self n) (go (either (eqb p q)))
@@ -230,7 +229,7 @@ module _ (text : List ℕ) (good : is_item Placed text ≡ true) (audit : kind_b
           let wrong : reading_number (read_item Placed text) ≡ 3 = rw e at (every-table.placed-audits text audit) in
           absurd (omega (arith, eqb-true (reading_number (read_item Placed text)) 0 good, wrong))
 
-  placed-read : read_item Placed text ≡ Good (audit_by (ballot_of text) (place_of text))
+  placed-read : read_item Placed text ≡ Some (audit_by (ballot_of text) (place_of text))
   placed-read =
       read_good Placed text _
       (record { says = record { ballot = refl; kind = audit; size = six_bytes; body = eqb_self (place_of text) }; taken = refl })

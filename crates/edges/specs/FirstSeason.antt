@@ -1,7 +1,7 @@
 -- The engine of the first season: how document 01's table is judged, and which of its items clash, where no table has
 -- a season. These are the definitions as they were before there were seasons, each under its own name, `abbrev` for
 -- `unfoldable`. Nothing that runs uses them.
-use Rattle.std.specs.Prelude.{ℕ, ◌+◌, ◌-◌, ◌*◌, Bool, false, not, ◌&&◌, ◌||◌, cond, List, [], ◌∷◌, leb, ltb, eqb, length}
+use Rattle.std.specs.Prelude.{Option, Some, None, ℕ, ◌+◌, ◌-◌, ◌*◌, Bool, false, not, ◌&&◌, ◌||◌, cond, List, [], ◌∷◌, leb, ltb, eqb, length}
 use Rattle.base.specs.Bytes.{byte_at, same_bytes, between}
 use Rattle.base.specs.Below.{every}
 use Rattle.base.specs.Refusals.{Refusals, header, pairs, item, twin, numbered, first}
@@ -12,8 +12,6 @@ use Rattle.twins.specs.Twins.{twinless}
 use Rattle.ballot.specs.declared.item.Kind.{Kind}
 use Rattle.ballot.specs.declared.item.Kind.TheVariants.{Vote, Audit, Cancellation}
 use Rattle.ballot.specs.declared.item.Item.{Item}
-use Rattle.ballot.specs.declared.item.Reading.{Reading}
-use Rattle.ballot.specs.declared.item.Reading.TheVariants.{Good, Wrong}
 use Rattle.ballot.specs.Item.{kind_number, reading_number, ballot_of, kind_byte, body_at, good_if}
 use Rattle.clash.specs.Clash.{is_vote, is_cancellation}
 
@@ -63,14 +61,14 @@ header_ok s =
 
 -- the items
 
-abbrev pub read_kind : ℕ → ℕ → ℕ → Reading
+abbrev pub read_kind : ℕ → ℕ → ℕ → Option Item
 read_kind b k rest =
     cond (eqb k (kind_number (Vote rest))) (good_if (between 1 rest 32) b (Vote rest))
     (cond (eqb k (kind_number Audit)) (good_if (eqb rest 0) b Audit)
-    (cond (eqb k (kind_number Cancellation)) (good_if (eqb rest 0) b Cancellation) Wrong))
+    (cond (eqb k (kind_number Cancellation)) (good_if (eqb rest 0) b Cancellation) None))
 
-abbrev pub read_item : List ℕ → Reading
-read_item text = cond (ltb (length text) body_at) Wrong (read_kind (ballot_of text) (kind_byte text) (length text - body_at))
+abbrev pub read_item : List ℕ → Option Item
+read_item text = cond (ltb (length text) body_at) None (read_kind (ballot_of text) (kind_byte text) (length text - body_at))
 
 abbrev pub is_item : List ℕ → Bool
 is_item text = eqb (reading_number (read_item text)) 0
@@ -117,10 +115,10 @@ kinds_clash a b = not (is_cancellation a) && not (is_cancellation b) && (is_vote
 abbrev pub items_clash : Item → Item → Bool
 items_clash a b = eqb a.ballot b.ballot && kinds_clash a.kind b.kind
 
-abbrev pub readings_clash : Reading → Reading → Bool
-readings_clash Wrong y = false
-readings_clash (Good a) Wrong = false
-readings_clash (Good a) (Good b) = items_clash a b
+abbrev pub readings_clash : Option Item → Option Item → Bool
+readings_clash None y = false
+readings_clash (Some a) None = false
+readings_clash (Some a) (Some b) = items_clash a b
 
 abbrev pub clash : List ℕ → List ℕ → Bool
 clash a b = not (same_bytes a b) && readings_clash (read_item a) (read_item b)

@@ -14,7 +14,8 @@ use Rattle.rules.specs.declared.Step.{Step}
 use Rattle.rules.specs.declared.Step.TheVariants.{Hand}
 use Rattle.rules.specs.Table.{clashing}
 use Rattle.rules.specs.State.{State}
-use Rattle.rules.specs.Fields.{Fields, fields}
+use Rattle.rules.specs.declared.Fields.{Fields}
+use Rattle.rules.specs.Fields.{fields}
 use Rattle.rules.specs.ByRow.{one_of, by_row}
 use Rattle.rules.proofs.ByRow.{by_row_lem}
 use Rattle.rules.proofs.Each.{each}

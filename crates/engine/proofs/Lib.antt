@@ -2,6 +2,5 @@ pub mod Clashing
 pub mod Fits
 pub mod Start
 pub mod Steps
-pub mod Zeros
 pub mod Calls
 pub mod States

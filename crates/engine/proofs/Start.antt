@@ -3,7 +3,7 @@ use Prim.Native.Nat.{ℕ}
 use native.Mathlib.Omega.{arith}
 use mathlib.Core.Bool.{Bool}
 use mathlib.Core.Path.{◌≡◌, refl, sym, ap, subst, ◌∙◌}
-use lib.ListN.{length}
+use lib.ListN.{length, length-replicate}
 use Rattle.base.specs.Bytes.{byte_at}
 use Rattle.base.proofs.Truth.{false_true}
 use Rattle.rules.specs.State.{fresh}
@@ -18,11 +18,10 @@ use Rattle.view.specs.Good.{Good}
 use Rattle.view.specs.Ready.{Room, Ready}
 use Rattle.engine.specs.Engine.{fresh_state}
 use Rattle.base.proofs.Bytes.{zeros-at}
-use Rattle.engine.proofs.Zeros.{zeros-length}
 
 fresh-length : length fresh_state ≡ size
 unfolding fresh_state
-fresh-length = zeros-length size
+fresh-length = length-replicate {A = ℕ} size 0
 
 fresh-zero : (i : ℕ) → byte_at fresh_state i ≡ 0
 unfolding fresh_state

@@ -10,8 +10,8 @@ use Rattle.base.proofs.Truth.{either}
 use Rattle.clash.specs.Clash.{clash_in}
 use Rattle.ballot.specs.Table.{refusal}
 use Rattle.rules.specs.declared.Step.{Step}
-use Rattle.rules.specs.declared.Call.{Call}
-use Rattle.rules.specs.declared.Call.TheVariants.{Formed, Malformed}
+use Rattle.rules.specs.Form.{Call}
+use Rattle.std.specs.Prelude.{Some, None}
 use Rattle.rules.specs.Table.{Table}
 use Rattle.rules.specs.Form.{read}
 use Rattle.rules.specs.Rules.{answer, next, reply, leave}
@@ -42,7 +42,7 @@ module _ (h : Head) (clash : ℕ → ℕ → Bool) (s : List ℕ) (R : Ready h s
   T = table_of h clash
 
   -- a step that is answered 0
-  taken : (st : Step) → answer T (state_of (contents s)) st ≡ 0 → Left h clash s (encode (effect_on T (contents s) st)) (Formed st)
+  taken : (st : Step) → answer T (state_of (contents s)) st ≡ 0 → Left h clash s (encode (effect_on T (contents s) st)) (Some st)
   unfolding leave next
   taken st zero =
       let clear = answered T (state_of (contents s)) st zero in
@@ -59,17 +59,17 @@ module _ (h : Head) (clash : ℕ → ℕ → Bool) (s : List ℕ) (R : Ready h s
       }
 
   -- one that is refused
-  refused : (st : Step) → eqb (answer T (state_of (contents s)) st) 0 ≡ false → Left h clash s s (Formed st)
+  refused : (st : Step) → eqb (answer T (state_of (contents s)) st) 0 ≡ false → Left h clash s s (Some st)
   unfolding leave next
   refused st e = record { holds = rw e; ready = R }
 
   pub after_call : (c : Call) → Left h clash s (cond (eqb (reply T (state_of (contents s)) c) 0) (encode (leave_on T (contents s) c)) s) c
   unfolding reply leave_on leave
-  after_call Malformed = record { holds = refl; ready = R }
-  after_call (Formed st) = go (either (eqb (answer T (state_of (contents s)) st) 0))
+  after_call None = record { holds = refl; ready = R }
+  after_call (Some st) = go (either (eqb (answer T (state_of (contents s)) st) 0))
     where
       go : (eqb (answer T (state_of (contents s)) st) 0 ≡ true) ⊎ (eqb (answer T (state_of (contents s)) st) 0 ≡ false)
-          → Left h clash s (cond (eqb (answer T (state_of (contents s)) st) 0) (encode (effect_on T (contents s) st)) s) (Formed st)
+          → Left h clash s (cond (eqb (answer T (state_of (contents s)) st) 0) (encode (effect_on T (contents s) st)) s) (Some st)
       go (inl e) = rw e (taken st (eqb-true _ 0 e))
       go (inr e) = rw e (refused st e)
 

@@ -4,8 +4,8 @@ use Rattle.base.specs.Refusals.{state, number_of}
 use Rattle.header.specs.Header.{head_of}
 use Rattle.clash.specs.Clash.{clash_in, RowsOf}
 use Rattle.ballot.specs.Table.{refusal}
-use Rattle.rules.specs.declared.Call.{Call}
-use Rattle.rules.specs.declared.Call.TheVariants.{Formed, Malformed}
+use Rattle.rules.specs.Form.{Call}
+use Rattle.std.specs.Prelude.{Some, None}
 use Rattle.rules.specs.Table.{Table}
 use Rattle.rules.specs.Form.{read}
 use Rattle.rules.specs.Rules.{reply}
@@ -29,8 +29,8 @@ pub record Prepared (table : List ℕ) (h : Head) (rows : List ℕ) : Type 0 whe
 
 -- what a call that is not refused does to the contents
 unfoldable pub leave_on : Table → Contents → Call → Contents
-leave_on T c (Formed st) = effect_on T c st
-leave_on T c Malformed = c
+leave_on T c (Some st) = effect_on T c st
+leave_on T c None = c
 
 -- step: the table's refusals 1 to 4, then 14, then 5 and on
 unfoldable pub step_answer : List ℕ → List ℕ → List ℕ → ℕ

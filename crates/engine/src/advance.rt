@@ -3,19 +3,21 @@
 // Rows of clashes may be handed in, made once for many steps; where there is no row of an item, its row is made anew.
 // Of the table only what clashes is asked.
 ghost use Rattle.std.specs.Prelude.{◌≡◌};
+ghost use Rattle.base.specs.Refusals.{answer_of};
 ghost use Rattle.header.specs.Header.{items_of};
 ghost use Rattle.clash.specs.Clash.{clash_in, RowsOf};
 ghost use Rattle.view.specs.Ready.{Ready};
 ghost use Rattle.view.specs.Stepped.{SteppedBy};
 
+use base::refusal::Refusal;
 use clash::rows::clash_row;
 use header::Head;
 use rules::Step;
 
 // The step, whichever of the nineteen it is.
-pub fn advance(table: &[u8], s: &mut [u8], h: Head, rows: &[u64], st: Step) -> u8
+pub fn advance(table: &[u8], s: &mut [u8], h: Head, rows: &[u64], st: Step) -> Result<(), Refusal>
     requires { Ready h s.old × (h.items ≡ items_of table.now) × RowsOf table.now rows.now }
-    ensures { SteppedBy h (clash_in table.now) s.old s.new st result }
+    ensures { SteppedBy h (clash_in table.now) s.old s.new st (answer_of result) }
 {
     match st {
         Step::Post(x) => casting::step_post(s, h, x),

@@ -7,7 +7,12 @@ use mathlib.Core.Option.{none}
 use mathlib.Core.Path.{◌≡◌, refl, sym, ap, subst, ◌∙◌}
 use lib.Dec.{eqb}
 use lib.ListN.{length}
+use Rattle.std.specs.Prelude.{Result, Ok, Err}
+use Rattle.std.specs.Result.{IsErr}
 use borrow.Author.Tests.{ne_eqb, eq-eqb}
+use Rattle.base.specs.declared.refusal.Refusal.{Refusal}
+use Rattle.base.specs.Refusals.{answer_of}
+use Rattle.base.proofs.Refusals.{refused_ne0}
 use Rattle.base.proofs.Truth.{and_false, and_i}
 use Rattle.base.specs.Bytes.{byte_at, number_at}
 use Rattle.bits.specs.Row.{Bytes}
@@ -18,9 +23,8 @@ use Rattle.clash.specs.Clash.{clash_in}
 use Rattle.rules.specs.Table.{Table}
 use Rattle.rules.specs.Rules.{board_from}
 use Rattle.view.specs.View.{no_clash, table_of}
-use Rattle.view.specs.Ready.{Room}
 use Rattle.engine.specs.Engine.{rules_table}
-use Rattle.engine.proofs.Calls.{room_of}
+use Rattle.engine.proofs.Calls.{room_read}
 use Rattle.field_rules.specs.Message.{Message, signs, shares, closes, hashes, backs, falls, rises}
 use Rattle.field_rules.specs.Rules.{field_rule, handle_answer, handle, Handled}
 use Rattle.field_rules.specs.MessageBytes.{Reading, to, malformed, reading, choose, read_message, read_step, sent_bytes, handle_reading}
@@ -63,8 +67,9 @@ module _ (table : List ℕ) (j : ℕ) (s : List ℕ) (room : Bool) (L : Reading)
   unfolding call_answer
   state_answer fit n = rw (fit, n)
 
-  pub bad_table : {r : ℕ} → r ≡ refusal table → (r ≡ 0 → ⊥) → Called table j s s room L o o r
-  bad_table e n = refused (table_answer e n) n
+  pub bad_table : (q : Result (Unit {0}) Refusal) → IsErr q → answer_of q ≡ refusal table → Called table j s s room L o o (answer_of q)
+  bad_table (Ok a) n e = absurd cc
+  bad_table (Err r) n e = refused (table_answer e (refused_ne0 r)) (refused_ne0 r)
 
   pub bad_state : (fit : refusal table ≡ 0) → (box_ok (head_of table) s && room) ≡ false → Called table j s s room L o o 14
   bad_state fit n = refused (state_answer fit n) (λ z. omega (arith, z))
@@ -161,28 +166,22 @@ module _ (h : Head) (clash : ℕ → ℕ → Bool) (j : ℕ) (s : List ℕ) wher
       }
 
 -- the calls, return by return
-module _ (table : List ℕ) {a : ℕ} (checked : a ≡ refusal table) (good : a ≡ 0) (h : Head) (head : h ≡ head_of table) where
-  fit : refusal table ≡ 0
-  fit = sym checked ∙ good
-
-  pub room-read : Room h
-  room-read = subst (λ (h : Head). Room h) (sym head) (room_of table checked good)
-
+module _ (table : List ℕ) (good : 0 ≡ refusal table) (h : Head) (head : h ≡ head_of table) where
   pub items-read : h.items ≡ items_of table
   items-read = ap (λ (h : Head). h.items) head
 
   module _ (j : ℕ) (s : List ℕ) {ok : Bool} (tested : ok ≡ box_ok h s) where
     pub ready_read : Bytes s → ok ≡ true → Ready h s
-    ready_read bytes y = ready_of_ok h s room-read bytes (sym tested ∙ y)
+    ready_read bytes y = ready_of_ok h s (room_read table good h head) bytes (sym tested ∙ y)
 
     box_test : ok ≡ box_ok (head_of table) s
     box_test = tested ∙ ap (λ (h : Head). box_ok h s) head
 
     pub state_refused : (room : Bool) (L : Reading) (o : List ℕ) → ok ≡ false → Called table j s s room L o o 14
-    state_refused room L o n = bad_state table j s room L o fit (ap (λ (b : Bool). b && room) (sym box_test ∙ n))
+    state_refused room L o n = bad_state table j s room L o (sym good) (ap (λ (b : Bool). b && room) (sym box_test ∙ n))
 
     pub output_refused : (L : Reading) (o : List ℕ) → (length o ≡ 13 → ⊥) → Called table j s s (eqb (length o) 13) L o o 14
-    output_refused L o n = bad_state table j s (eqb (length o) 13) L o fit
+    output_refused L o n = bad_state table j s (eqb (length o) 13) L o (sym good)
         (ap (λ (b : Bool). box_ok (head_of table) s && b) (ne_eqb (length o) 13 n) ∙ and_false (box_ok (head_of table) s))
 
     pub brought_so : (m t : List ℕ) {r : ℕ} → Ready h s → HandlesReading (table_of h (clash_in table)) j s t (read_message m) r
@@ -193,7 +192,7 @@ module _ (table : List ℕ) {a : ℕ} (checked : a ≡ refusal table) (good : a 
         let y : (box_ok (head_of table) s && true) ≡ true = and_i _ _ (subst (λ (h : Head). box_ok h s ≡ true) head (ok_of_ready h s R)) refl
         in
         let o = cond (eqb r 0) (sent_bytes j (handle_reading (rules_table table) j (box_of s) (read_message m)).sent) [] in
-        let C = heard_so table j s true (read_message m) [] fit y t o (record { handles = G; sends = refl })
+        let C = heard_so table j s true (read_message m) [] (sym good) y t o (record { handles = G; sends = refl })
         (refused-bytes (rules_table table) h j s t (read_message m) R G) in
         (C.answers, C.leaves)
 
@@ -204,20 +203,20 @@ module _ (table : List ℕ) {a : ℕ} (checked : a ≡ refusal table) (good : a 
         subst (λ (h : Head). SendsReading (table_of h (clash_in table)) j s t (read_step c) o u r) head
         (step_too h (clash_in table) j s t c o u S)
         in
-        heard_so table j s (eqb (length o) 13) (read_step c) o fit
+        heard_so table j s (eqb (length o) 13) (read_step c) o (sym good)
         (and_i _ _ (subst (λ (h : Head). box_ok h s ≡ true) head (ok_of_ready h s R)) (eq-eqb (length o) 13 l)) t u G
         (refused-bytes (rules_table table) h j s t (read_step c) R G.handles)
 
 -- the same as the first call has it, which sends nothing
 module _ (table : List ℕ) (j : ℕ) (s : List ℕ) (m : List ℕ) where
-  pub bring_table : {r : ℕ} → r ≡ refusal table → (r ≡ 0 → ⊥)
-      → (r ≡ call_answer table j s true (read_message m)) × (s ≡ call_bytes table j s true (read_message m))
-  bring_table e n = let C = bad_table table j s true (read_message m) [] e n in (C.answers, C.leaves)
+  pub bring_table : (q : Result (Unit {0}) Refusal) → IsErr q → answer_of q ≡ refusal table
+      → (answer_of q ≡ call_answer table j s true (read_message m)) × (s ≡ call_bytes table j s true (read_message m))
+  bring_table q n e = let C = bad_table table j s true (read_message m) [] q n e in (C.answers, C.leaves)
 
-  pub bring_state : {a : ℕ} → a ≡ refusal table → a ≡ 0 → (h : Head) → h ≡ head_of table → {ok : Bool} → ok ≡ box_ok h s → ok ≡ false
+  pub bring_state : 0 ≡ refusal table → (h : Head) → h ≡ head_of table → {ok : Bool} → ok ≡ box_ok h s → ok ≡ false
       → (14 ≡ call_answer table j s true (read_message m)) × (s ≡ call_bytes table j s true (read_message m))
-  bring_state checked good h head tested n =
-      let C = state_refused table checked good h head j s tested true (read_message m) [] n in (C.answers, C.leaves)
+  bring_state good h head tested n =
+      let C = state_refused table good h head j s tested true (read_message m) [] n in (C.answers, C.leaves)
 
 -- what the second call promises, in its parts
 pub act_parts : (table : List ℕ) (j : ℕ) (s t : List ℕ) (c o u : List ℕ) (r : ℕ) → Called table j s t (eqb (length o) 13) (read_step c) o u r

@@ -4,8 +4,11 @@
 #![tactic(auto)]
 
 ghost use Rattle.std.specs.Prelude.{◌≡◌};
+ghost use Rattle.base.specs.Refusals.{answer_of};
 ghost use Rattle.field_state.specs.Layout.{size};
 ghost use Rattle.field.specs.Calls.{message_answer, message_leaves, own_answer, own_leaves, own_sends};
+
+use base::refusal::Refusal;
 
 mod calls; // the two calls
 
@@ -16,17 +19,28 @@ pub fn field_state_length() -> usize
     field_state::layout::SIZE
 }
 
-// Brings a message to the peer; the answer is 0, or the refusal, which alters nothing.
-pub fn field_message(table: &[u8], peer: u8, state: &mut [u8], message: &[u8]) -> u8
-    ensures { (result ≡ message_answer table.now peer state.old message.now)
+// Brings a message to the peer; a refusal alters nothing.
+pub fn field_message(
+    table: &[u8],
+    peer: u8,
+    state: &mut [u8],
+    message: &[u8],
+) -> Result<(), Refusal>
+    ensures { (answer_of result ≡ message_answer table.now peer state.old message.now)
         × (state.new ≡ message_leaves table.now peer state.old message.now) }
 {
     calls::bring(table, peer, state, message)
 }
 
-// Has the peer do a step of its own, and writes what it sends; the answer is 0, or the refusal, which alters nothing.
-pub fn field_step(table: &[u8], peer: u8, state: &mut [u8], step: &[u8], sent: &mut [u8]) -> u8
-    ensures value { result ≡ own_answer table.now peer state.old step.now
+// Has the peer do a step of its own, and writes what it sends; a refusal alters nothing.
+pub fn field_step(
+    table: &[u8],
+    peer: u8,
+    state: &mut [u8],
+    step: &[u8],
+    sent: &mut [u8],
+) -> Result<(), Refusal>
+    ensures value { answer_of result ≡ own_answer table.now peer state.old step.now
         sent.old }
     ensures state_after { state.new ≡ own_leaves table.now peer state.old step.now
         sent.old }

@@ -6,6 +6,8 @@ ghost use Rattle.std.specs.Prelude.{◌≡◌};
 ghost use Rattle.field_state.specs.Layout.{size};
 ghost use Rattle.field.specs.Calls.{message_answer, message_leaves, own_answer, own_leaves, own_sends};
 
+use base::refusal::answer;
+
 // The length of the field peer's state; a state of zeros is fresh.
 #[unsafe(no_mangle)]
 pub extern "C" fn field_state_length() -> usize
@@ -20,7 +22,7 @@ pub extern "C" fn field_message(table: &[u8], peer: u8, state: &mut [u8], messag
     ensures { (result ≡ message_answer table.now peer state.old message.now)
         × (state.new ≡ message_leaves table.now peer state.old message.now) }
 {
-    field::field_message(table, peer, state, message)
+    answer(field::field_message(table, peer, state, message))
 }
 
 // Has the peer do a step of its own, and writes what it sends; the answer is 0, or the refusal, which alters nothing.
@@ -39,5 +41,5 @@ pub extern "C" fn field_step(
     ensures sent_after { sent.new ≡ own_sends table.now peer state.old step.now
         sent.old }
 {
-    field::field_step(table, peer, state, step, sent)
+    answer(field::field_step(table, peer, state, step, sent))
 }

@@ -1,10 +1,18 @@
 -- What bytes say: not formed, another's, or done.
 use Prim.Native.Nat.{ℕ}
 use native.Mathlib.Omega.{arith}
-use mathlib.Core.Bool.{Bool, true, false, not, ◌&&◌}
+use mathlib.Core.Bool.{Bool, true, false, ◌&&◌}
+use mathlib.Core.Logic.{◌⊎◌, inl, inr}
 use mathlib.Core.List.{List}
-use mathlib.Core.Path.{◌≡◌, refl, ap, ◌∙◌}
-use borrow.Author.Tests.{eq-eqb, ne_eqb, not-true, not-false}
+use mathlib.Core.Path.{◌≡◌, refl, sym, ap, ◌∙◌}
+use lib.Dec.{eqb}
+use Rattle.std.specs.Prelude.{Result, Ok, Err}
+use Rattle.std.specs.Result.{IsErr}
+use borrow.Author.Tests.{ne_eqb}
+use Rattle.base.specs.declared.refusal.Refusal.{Refusal}
+use Rattle.base.specs.Refusals.{form, name, number_of, answer_of}
+use Rattle.base.proofs.Refusals.{refused_ne0}
+use Rattle.base.proofs.Truth.{either}
 use Rattle.base.specs.Bits.{bit}
 use Rattle.base.proofs.Below.{any_ext}
 use Rattle.base.proofs.Bits.{bit-pack}
@@ -15,39 +23,64 @@ use Rattle.rules.specs.Table.{clashing}
 use Rattle.view.specs.View.{no_clash, in_row, table_of}
 use Rattle.field_rules.specs.Message.{Message, handed, taken, fetched, told}
 use Rattle.field_rules.specs.Rules.{stray_rows, field_rule, handle_answer, handle}
-use Rattle.field_rules.specs.MessageBytes.{reading, handle_reading}
+use Rattle.field_rules.specs.MessageBytes.{to, reading, handle_reading}
 use Rattle.field_state.specs.Holding.{box_of}
 use Rattle.field_state.specs.Ready.{Ready, HandlesBy}
 use Rattle.field_steps.specs.Sends.{Sends}
-use Rattle.field_form.specs.Handling.{HandlesReading, SendsReading}
+use Rattle.field_form.specs.Handling.{address, HandlesReading, SendsReading}
 
-module _ (h : Head) (clash : ℕ → ℕ → Bool) (j : ℕ) (s : List ℕ) (m : Message) (i : ℕ) (ok : Bool) where
-  pub not-formed : Ready h s → not ok ≡ true → HandlesReading (table_of h clash) j s s (reading ok i m) 5
-  unfolding reading handle_reading
-  not-formed R n = rw (not-true ok n) (record { answers = refl; leaves = record { canon = R.canon; says = refl } })
+module _ (h : Head) (clash : ℕ → ℕ → Bool) (j : ℕ) (s : List ℕ) (m : Message) (i : ℕ) where
+  turned_by : (ok : Bool) (r : Refusal) → Ready h s → number_of r ≡ address ok i j
+      → HandlesReading (table_of h clash) j s s (reading ok i m) (number_of r)
+  unfolding address reading handle_reading
+  turned_by true r R e = go (either (eqb i j))
+    where
+      go : (eqb i j ≡ true) ⊎ (eqb i j ≡ false) → HandlesReading (table_of h clash) j s s (to i m) (number_of r)
+      go (inl y) = absurd (refused_ne0 r (rw y at e))
+      go (inr n) = record { answers = rw n (rw n at e); leaves = rw n (record { canon = R.canon; says = refl }) }
+  turned_by false r R e = record { answers = e; leaves = record { canon = R.canon; says = refl } }
 
-  pub not_mine : Ready h s → not ok ≡ false → (i ≡ j → ⊥) → HandlesReading (table_of h clash) j s s (reading ok i m) 6
-  unfolding reading handle_reading
-  not_mine R n d = rw (not-false ok n)
-      (record { answers = rw (ne_eqb i j d); leaves = rw (ne_eqb i j d) (record { canon = R.canon; says = refl }) })
-
-  pub mine : (t : List ℕ) {r : ℕ} → not ok ≡ false → i ≡ j → HandlesBy h clash j s t m r
+  mine_if : (ok : Bool) (t : List ℕ) {r : ℕ} → 0 ≡ address ok i j → HandlesBy h clash j s t m r
       → HandlesReading (table_of h clash) j s t (reading ok i m) r
-  unfolding reading handle_reading handle
-  mine t n e H = rw (not-false ok n) (record { answers = rw (eq-eqb i j e) H.answers; leaves = rw (eq-eqb i j e) H.leaves })
+  unfolding address reading handle_reading handle
+  mine_if true t {r} e H = go (either (eqb i j))
+    where
+      go : (eqb i j ≡ true) ⊎ (eqb i j ≡ false) → HandlesReading (table_of h clash) j s t (to i m) r
+      go (inl y) = record { answers = rw y H.answers; leaves = rw y H.leaves }
+      go (inr n) = absurd (refused_ne0 name (sym (rw n at e)))
+  mine_if false t e H = absurd (refused_ne0 form (sym e))
 
-module _ (h : Head) (j : ℕ) (s : List ℕ) (m : Message) (i : ℕ) (o : List ℕ) (ok : Bool) where
-  pub none-formed : Ready h s → not ok ≡ true → SendsReading (table_of h no_clash) j s s (reading ok i m) o o 5
-  none-formed R n = record { handles = not-formed h no_clash j s m i ok R n; sends = refl }
+  -- not done: not formed, or another's
+  pub turned : (z : Bool) {ok : Bool} → ok ≡ z → (q : Result (Unit {0}) Refusal) → IsErr q → Ready h s → answer_of q ≡ address ok i j
+      → HandlesReading (table_of h clash) j s s (reading z i m) (answer_of q)
+  turned z {ok} same (Ok a) n R e = absurd cc
+  turned z {ok} same (Err r) n R e = turned_by z r R (rw same at e)
 
-  pub none_mine : Ready h s → not ok ≡ false → (i ≡ j → ⊥) → SendsReading (table_of h no_clash) j s s (reading ok i m) o o 6
-  none_mine R n d = record { handles = not_mine h no_clash j s m i ok R n d; sends = refl }
+  -- done
+  pub mine : (z : Bool) {ok : Bool} → ok ≡ z → (t : List ℕ) {r : ℕ} → 0 ≡ address ok i j → HandlesBy h clash j s t m r
+      → HandlesReading (table_of h clash) j s t (reading z i m) r
+  mine z {ok} same t e H = mine_if z t (rw same at e) H
 
-  pub sent_mine : (t u : List ℕ) {r : ℕ} → not ok ≡ false → i ≡ j → Sends h j s t m o u r
+module _ (h : Head) (j : ℕ) (s : List ℕ) (m : Message) (i : ℕ) (o : List ℕ) where
+  sent_if : (ok : Bool) (t u : List ℕ) {r : ℕ} → 0 ≡ address ok i j → Sends h j s t m o u r
       → SendsReading (table_of h no_clash) j s t (reading ok i m) o u r
-  unfolding reading handle_reading
-  sent_mine t u n e S = record
-      { handles = mine h no_clash j s m i ok t n e S.handles; sends = rw (not-false ok n, eq-eqb i j e) S.sends }
+  unfolding address reading handle_reading
+  sent_if true t u {r} e S = go (either (eqb i j))
+    where
+      go : (eqb i j ≡ true) ⊎ (eqb i j ≡ false) → SendsReading (table_of h no_clash) j s t (to i m) o u r
+      go (inl y) = record { handles = mine_if h no_clash j s m i true t e S.handles; sends = rw y S.sends }
+      go (inr n) = absurd (refused_ne0 name (sym (rw n at e)))
+  sent_if false t u e S = absurd (refused_ne0 form (sym e))
+
+  pub unsent : (z : Bool) {ok : Bool} → ok ≡ z → (q : Result (Unit {0}) Refusal) → IsErr q → Ready h s → answer_of q ≡ address ok i j
+      → SendsReading (table_of h no_clash) j s s (reading z i m) o o (answer_of q)
+  unsent z {ok} same (Ok a) n R e = absurd cc
+  unsent z {ok} same (Err r) n R e = record
+      { handles = turned h no_clash j s m i z same (Err r) n R e; sends = rw (ne_eqb (number_of r) 0 (refused_ne0 r)) }
+
+  pub sent : (z : Bool) {ok : Bool} → ok ≡ z → (t u : List ℕ) {r : ℕ} → 0 ≡ address ok i j → Sends h j s t m o u r
+      → SendsReading (table_of h no_clash) j s t (reading z i m) o u r
+  sent z {ok} same t u e S = sent_if z t u (rw same at e) S
 
 -- an item handed, whose row was read
 module _ (h : Head) (table s : List ℕ) (R : Ready h s) (same : h.items ≡ items_of table) (j x row : ℕ) (read : row ≡ clash_mask table x)

@@ -1,6 +1,5 @@
--- The board of a period, item by item: none yet, one more, all.
-use Prim.Native.Nat.{ℕ, ◌+◌, ◌*◌, ◌^◌, ◌≤◌}
-use native.Mathlib.Omega.{arith}
+-- The board of a period, item by item: one more, all.
+use Prim.Native.Nat.{ℕ, ◌+◌, ◌*◌, ◌^◌}
 use mathlib.Core.Bool.{Bool}
 use mathlib.Core.List.{List}
 use mathlib.Core.Path.{◌≡◌, sym, ap, ap₂, ◌∙◌}
@@ -29,7 +28,7 @@ module _ (h : Head) (s : List ℕ) (R : Ready h s) (p : ℕ) where
       ∙ ap₂ (λ (a : ℕ) (z : Bool). a + digit z * 2 ^ i) so (y-is ∙ ap (λ (z : Signers). reaches h z.0) read ∙ signers-quorum h s R p i)
       ∙ sym (pack_more i (on_board h s p))
 
-pub board-end : (h : Head) (s : List ℕ) (p m i b : ℕ) → m ≡ h.items → i ≤ m → m ≤ i → b ≡ pack i (on_board h s p)
+pub board-end : (h : Head) (s : List ℕ) (p i b : ℕ) → i ≡ h.items → b ≡ pack i (on_board h s p)
     → b ≡ board_from (table_of h no_clash) (spot_bit s p)
 unfolding board_from on_board
-board-end h s p m i b is l k e = e ∙ ap (λ (n : ℕ). pack n (on_board h s p)) (omega arith)
+board-end h s p i b end e = e ∙ ap (λ (n : ℕ). pack n (on_board h s p)) end

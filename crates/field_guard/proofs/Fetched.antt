@@ -8,10 +8,9 @@ use mathlib.Core.Path.{◌≡◌, refl, sym, ap, ap₂, fun_ext, subst, ◌∙�
 use mathlib.Core.Logic.{◌⊎◌, inl, inr}
 use lib.Dec.{eqb, ltb}
 use borrow.Author.Tests.{eqb-true, eq-eqb, ne_eqb, ltb-true, ltb-false, lt-ltb, le-ltb, not-true}
-use Rattle.base.specs.Below.{any}
 use Rattle.base.specs.Bits.{bit, member}
 use Rattle.base.specs.Bytes.{byte_at, number_at}
-use Rattle.base.proofs.Below.{any_at, any_ext}
+use Rattle.base.proofs.Below.{any_ext}
 use Rattle.base.proofs.Members.{member-among}
 use Rattle.base.proofs.Truth.{eqb_self, and_false, either, iff, is_false, split, not_i, and_i, and_l, and_r}
 use Rattle.bits.specs.Row.{bit_at}
@@ -23,10 +22,9 @@ use Rattle.state.specs.Layout.{peers, items, peer_bytes}
 use Rattle.state.specs.Facts.{is_spot, Peer, Cell, Spot}
 use Rattle.state.specs.Places.{cell}
 use Rattle.state.proofs.Ranges.{spot_within, within_spot}
-use Rattle.view.specs.View.{no_clash, table_of}
 use Rattle.view.specs.Ready.{Room}
 use Rattle.field_rules.specs.Box.{Box, box_db}
-use Rattle.field_rules.specs.Rules.{stray_rows, own_rows}
+use Rattle.field_rules.specs.Rules.{own_rows}
 use Rattle.field_rules.specs.MessageBytes.{rows_in}
 use Rattle.field_state.specs.Layout.{held_at, gave_at, known_at, current_at, to_back_at, down_at}
 use Rattle.field_state.specs.Holding.{spot_bit, box_of, Canon, Holds}
@@ -67,20 +65,6 @@ module _ (h : Head) (room : Room h) (s : List ℕ) where
   pub stray_read : (x w m : ℕ) {r : Bool} → x < items → w ≡ number_at s (13 + 2 * x) 2 → w < 65536 → m ≡ width_at h x → r ≡ ltb w (2 ^ m)
       → not r ≡ stray_at h s x
   stray_read x w m l e small i q = ap not (q ∙ ap₂ (λ (w m : ℕ). ltb w (2 ^ m)) e i) ∙ sym (stray_one x l (omega (arith, e, small)))
-
--- as the code reads it
-pub row_read : (s : List ℕ) (x w r : ℕ) → w ≡ x → r ≡ number_at s (13 + 2 * w) 2 → r ≡ number_at s (13 + 2 * x) 2
-row_read s x w r e q = q ∙ ap (λ (n : ℕ). number_at s (13 + 2 * n) 2) e
-
-pub stray_end : (h : Head) (s : List ℕ) (x : ℕ) → any x (stray_at h s) ≡ false → x ≤ 64 → 64 ≤ x
-    → false ≡ stray_rows (table_of h no_clash) (rows_in s)
-unfolding stray_rows stray_at
-stray_end h s x e a b = sym e ∙ ap (λ (n : ℕ). any n (stray_at h s)) {x = x} {y = 64} (omega arith)
-
-pub stray_found : (h : Head) (s : List ℕ) (x : ℕ) {r : Bool} → r ≡ stray_at h s x → r ≡ true → x < 64
-    → true ≡ stray_rows (table_of h no_clash) (rows_in s)
-unfolding stray_rows stray_at
-stray_found h s x e t l = sym (any_at (stray_at h s) x 64 l (sym e ∙ t))
 
 -- a set joined to a word of the database
 module _ (s : List ℕ) (c : Canon s) (p x v : ℕ) (h : Cell p x) (small : v < 2 ^ 16) where
@@ -176,10 +160,7 @@ join_done s t p x v n c h at q =
     subst (λ (r : List ℕ). Holds r (joining p x v (box_of s)))
     (sym (q.0 ∙ ap (λ (m : ℕ). joined peer_bytes s (known_at + peer_bytes * m) v) at)) (join_holds s c p x v h q.1)
 
-pub row_done : (s t : List ℕ) (p x v w : ℕ) → v ≡ w → Holds t (joining p x v (box_of s)) → Holds t (joining p x w (box_of s))
-row_done s t p x v w e h = rw e at h
-
--- rows added one after the other: none yet, one more, all
+-- rows added one after the other: none yet, one more
 
 pub rows_none : (s : List ℕ) (p : ℕ) (m : List ℕ) → Canon s → Holds s (rows_to p 0 m (box_of s))
 unfolding rows_to own_rows
@@ -238,9 +219,6 @@ rows_more s t m b p n l h k = record {
   canon = k.canon;
   says = k.says ∙ ap (joining p n (number_at m (13 + 2 * n) 2)) h.says ∙ one_more m p n l b;
 }
-
-pub rows_end : (s m : List ℕ) (b : Box) (p n : ℕ) → n ≤ 64 → 64 ≤ n → Holds s (rows_to p n m b) → Holds s (rows_to p items m b)
-rows_end s m b p n u v h = subst (λ (k : ℕ). Holds s (rows_to p k m b)) (omega arith) h
 
 -- and all of them are what the message brings
 pub rows_all : (m : List ℕ) (p : ℕ) (b : Box) → rows_to p items m b ≡ box_db b (own_rows p (rows_in m) b.db)

@@ -7,7 +7,7 @@ ghost use Rattle.field_state.specs.Ready.{Ready};
 
 use field_state::part::signers_of;
 use header::Head;
-use header::quorum::signers_reach;
+use header::quorum::reaches;
 use sets::database::with_item;
 
 // The board of period p: the items whose signers reach t.
@@ -15,12 +15,9 @@ pub fn board_of(s: &[u8], h: Head, p: u8) -> u64
     requires { Ready h s.now }
     ensures { result ≡ own_board (table_of h no_clash) (box_of s.now) p }
 {
-    let m = h.items;
     let mut b: u64 = 0;
-    let mut i: u8 = 0;
-    while i < m {
-        b = with_item(b, i, signers_reach(h, signers_of(s, p, i)));
-        i += 1;
+    for i in 0..h.items {
+        b = with_item(b, i, reaches(h, signers_of(s, p, i)));
     }
     b
 }

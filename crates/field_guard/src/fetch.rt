@@ -10,7 +10,6 @@ ghost use Rattle.field_rules.specs.MessageBytes.{rows_in};
 ghost use Rattle.field_state.specs.Holding.{box_of, Canon, Holds};
 ghost use Rattle.field_guard.specs.Fetching.{stray_at, joining, rows_to};
 
-use base::wide;
 use field_state::layout;
 use field_state::width::width_at;
 use header::Head;
@@ -22,7 +21,7 @@ fn row_at(message: &[u8], x: u8) -> u16
     requires { x < items }
     ensures { (result ≡ number_at message.now (13 + 2 * x) 2) × (result < 65536) }
 {
-    base::number_at(message, 13 + 2 * wide(x), 2) as u16
+    base::number_at(message, 13 + 2 * x as usize, 2) as u16
 }
 
 // Whether the message brings, on item x, a signer that the table has not.
@@ -39,14 +38,7 @@ pub fn stray_rows(message: &[u8], h: Head) -> bool
     requires { Room h }
     ensures { result ≡ stray_rows (table_of h no_clash) (rows_in message.now) }
 {
-    let mut x: u8 = 0;
-    while x < 64 {
-        if stray_at(message, h, x) {
-            return true;
-        }
-        x += 1;
-    }
-    false
+    (0..64u8).any(|x| stray_at(message, h, x))
 }
 
 // Adds a set of signers on item x to the database of period p.
@@ -71,9 +63,7 @@ pub fn add_rows(s: &mut [u8], p: u8, message: &[u8])
     requires { Canon s.old × (p < periods) }
     ensures { Holds s.new (rows_to p items message.now (box_of s.old)) }
 {
-    let mut x: u8 = 0;
-    while x < 64 {
+    for x in 0..64u8 {
         add_row(s, p, x, message);
-        x += 1;
     }
 }

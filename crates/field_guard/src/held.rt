@@ -19,27 +19,12 @@ pub fn not_held(s: &[u8], x: u8) -> bool
     !holds(s, current(s), x)
 }
 
-// Whether an item of the row is held in period q.
-fn holds_of(s: &[u8], row: u64, q: u8) -> bool
-    requires { Canon s.now }
-    ensures { result ≡ holds_of s.now row q }
-{
-    sets_meet(held_in(s, q), row)
-}
-
 // Whether an item of the row is held in one of the periods.
 fn ever_holds(s: &[u8], row: u64, periods: u8) -> bool
     requires { Canon s.now }
     ensures { result ≡ any periods (holds_of s.now row) }
 {
-    let mut q: u8 = 0;
-    while q < periods {
-        if holds_of(s, row, q) {
-            return true;
-        }
-        q += 1;
-    }
-    false
+    (0..periods).any(|q| sets_meet(held_in(s, q), row))
 }
 
 // An item of the row is held, in any period: one that clashes with x, where the row has all that do.

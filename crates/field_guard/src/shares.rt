@@ -8,21 +8,14 @@ ghost use Rattle.field_state.specs.Ready.{Ready};
 
 use field_state::part::{current, gave, signers_of};
 use header::Head;
-use header::quorum::signers_reach;
+use header::quorum::reaches;
 
 // A receipt share on item x was given in a period before p.
 fn given_before(s: &[u8], p: u8, x: u8) -> bool
     requires { Canon s.now }
     ensures { result ≡ given_before (box_of s.now).gave p x }
 {
-    let mut q: u8 = 0;
-    while q < p {
-        if gave(s, q, x) {
-            return true;
-        }
-        q += 1;
-    }
-    false
+    (0..p).any(|q| gave(s, q, x))
 }
 
 // A receipt share on item x was given in a period before the open one.
@@ -39,5 +32,5 @@ pub fn few_signers(s: &[u8], h: Head, x: u8) -> bool
     ensures { result ≡ not (quorum (table_of h no_clash)
         ((box_of s.now).db (box_of s.now).current x)) }
 {
-    !signers_reach(h, signers_of(s, current(s), x))
+    !reaches(h, signers_of(s, current(s), x))
 }

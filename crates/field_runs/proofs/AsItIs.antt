@@ -11,8 +11,8 @@ use Rattle.base.specs.Bytes.{byte_at}
 use Rattle.base.proofs.Truth.{split, and_l}
 use Rattle.rules.specs.declared.Step.{Step}
 use Rattle.rules.specs.declared.Step.TheVariants.{Post, Hand, Sign, Take, Share, Receipt, Close, Fetch, SendHash, Hear, Back, Publish, FalseSignature, FalseShare, FalseHash, FalseBacking, Down, Up, ClearHashes}
-use Rattle.rules.specs.declared.Call.{Call}
-use Rattle.rules.specs.declared.Call.TheVariants.{Formed, Malformed}
+use Rattle.rules.specs.Form.{Call}
+use Rattle.std.specs.Prelude.{Some, None}
 use Rattle.rules.specs.Table.{Table}
 use Rattle.rules.specs.State.{State}
 use Rattle.rules.specs.Form.{read}
@@ -64,5 +64,5 @@ module _ (T : Table) (j : ℕ) (s : State) where
   as_it_is c small m e n = go (read c) refl e
     where
       go : (d : Call) → read c ≡ d → passed_call T j s d ≡ some m → message_bytes j m ≡ c
-      go (Formed st) r e = step_as_it_is st m e n ∙ sym ((both_ways c small st).writes r).0
-      go Malformed r e = absurd (none_some m e)
+      go (Some st) r e = step_as_it_is st m e n ∙ sym ((both_ways c small st).writes r).0
+      go None r e = absurd (none_some m e)

@@ -10,8 +10,8 @@ use borrow.Author.Tests.{eqb-true}
 use Rattle.base.proofs.Truth.{either, false_true, eqb_self}
 use Rattle.rules.specs.declared.Step.{Step}
 use Rattle.rules.specs.declared.Step.TheVariants.{Post, Hand, Sign, Take, Share, Receipt, Close, Fetch, SendHash, Hear, Back, Publish, FalseSignature, FalseShare, FalseHash, FalseBacking, Down, Up, ClearHashes}
-use Rattle.rules.specs.declared.Call.{Call}
-use Rattle.rules.specs.declared.Call.TheVariants.{Formed, Malformed}
+use Rattle.rules.specs.Form.{Call}
+use Rattle.std.specs.Prelude.{Some, None}
 use Rattle.rules.specs.Table.{Table}
 use Rattle.rules.specs.State.{State}
 use Rattle.rules.specs.Form.{read}
@@ -73,8 +73,8 @@ module _ (T : Table) (j : ℕ) {X : Type 0} (E : Engine X) (Ready : X → Type 0
   call_delivers : (s : State) (c : Call) → is_call_of j c ≡ true
       → outside (leave T s c) ≡ delivered j (sent_call T j s c (reply T s c)) (outside s)
   unfolding is_call_of leave sent_call reply
-  call_delivers s (Formed st) e = delivers T j s st e
-  call_delivers s Malformed e = false_true e
+  call_delivers s (Some st) e = delivers T j s st e
+  call_delivers s None e = false_true e
 
   pub engine_delivers : (x : X) → Ready x → (c : List ℕ) → is_call_of j (read c) ≡ true
       → outside (E.holds (E.leaves x c)) ≡ delivered j (sends T j E x c) (outside (E.holds x))

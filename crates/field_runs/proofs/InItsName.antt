@@ -11,8 +11,8 @@ use Rattle.rules.specs.declared.Entry.{Entry}
 use Rattle.rules.specs.declared.Entry.TheVariants.{Hash, Backing, Board}
 use Rattle.rules.specs.declared.Step.{Step}
 use Rattle.rules.specs.declared.Step.TheVariants.{Post, Hand, Sign, Take, Share, Receipt, Close, Fetch, SendHash, Hear, Back, Publish, FalseSignature, FalseShare, FalseHash, FalseBacking, Down, Up, ClearHashes}
-use Rattle.rules.specs.declared.Call.{Call}
-use Rattle.rules.specs.declared.Call.TheVariants.{Formed, Malformed}
+use Rattle.rules.specs.Form.{Call}
+use Rattle.std.specs.Prelude.{Some, None}
 use Rattle.rules.specs.Table.{Table}
 use Rattle.rules.specs.Bag.{same_entry, is_in, enter}
 use Rattle.rules.specs.State.{State}
@@ -160,8 +160,8 @@ module _ (T : Table) (j : ℕ) {X : Type 0} (E : Engine X) (Ready : X → Type 0
   call_in_its_name : (s : State) (c : Call)
       → InItsName j (outside (leave T s c)) (delivered j (sent_call T j s c (reply T s c)) (outside s))
   unfolding leave sent_call reply delivered
-  call_in_its_name s (Formed st) = in_its_name T j s st
-  call_in_its_name s Malformed = same_name j (outside s)
+  call_in_its_name s (Some st) = in_its_name T j s st
+  call_in_its_name s None = same_name j (outside s)
 
   pub engine_in_its_name : (x : X) → Ready x → (c : List ℕ)
       → InItsName j (outside (E.holds (E.leaves x c))) (delivered j (sends T j E x c) (outside (E.holds x)))

@@ -12,8 +12,8 @@ use Rattle.base.proofs.Truth.{either, and_l, and_r}
 use Rattle.rules.specs.declared.Entry.{Entry}
 use Rattle.rules.specs.declared.Entry.TheVariants.{Hash}
 use Rattle.rules.specs.declared.Step.{Step}
-use Rattle.rules.specs.declared.Call.{Call}
-use Rattle.rules.specs.declared.Call.TheVariants.{Formed, Malformed}
+use Rattle.rules.specs.Form.{Call}
+use Rattle.std.specs.Prelude.{Some, None}
 use Rattle.rules.specs.Table.{Table}
 use Rattle.rules.specs.Bag.{is_in}
 use Rattle.rules.specs.State.{State, fresh}
@@ -100,14 +100,14 @@ module _ (T : Table) (j : ℕ) (peer : Peer T j) (honest : T.honest j ≡ true) 
         → (reply T s c ≡ (handle T j b m).answer) × (sent_call T j s c (reply T s c) ≡ (handle T j b m).sent) × Part (leave T s c) j
         (handle T j b m).after
     unfolding passed_call sent_call reply leave
-    call_passed b P (Formed st) m e r = let one = step_passed b P st m e r in (one.answers, one.sent, one.after)
-    call_passed b P Malformed m e r = absurd (none_some m e)
+    call_passed b P (Some st) m e r = let one = step_passed b P st m e r in (one.answers, one.sent, one.after)
+    call_passed b P None m e r = absurd (none_some m e)
 
     call_silent : (b : Box) → Part s j b → (c : Call) → passed_call T j s c ≡ none
         → (sent_call T j s c (reply T s c) ≡ none) × Part (leave T s c) j b
     unfolding passed_call sent_call reply leave
-    call_silent b P (Formed st) e = let one = step_silent b P st e in (one.sent, one.after)
-    call_silent b P Malformed e = (refl, P)
+    call_silent b P (Some st) e = let one = step_silent b P st e in (one.sent, one.after)
+    call_silent b P None e = (refl, P)
 
     call-part : (b : Box) → Part s j b → (c : Call) → room_in T j b (reply T s c) (passed_call T j s c) ≡ true
         → Part (leave T s c) j (fed_with T j b (passed_call T j s c))

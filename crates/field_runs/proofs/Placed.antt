@@ -10,8 +10,8 @@ use Rattle.base.proofs.Truth.{and_r, eqb_self}
 use Rattle.rules.specs.declared.Entry.TheVariants.{Hash}
 use Rattle.rules.specs.declared.Step.{Step}
 use Rattle.rules.specs.declared.Step.TheVariants.{Post, Hand, Sign, Take, Share, Receipt, Close, Fetch, SendHash, Hear, Back, Publish, FalseSignature, FalseShare, FalseHash, FalseBacking, Down, Up, ClearHashes}
-use Rattle.rules.specs.declared.Call.{Call}
-use Rattle.rules.specs.declared.Call.TheVariants.{Formed, Malformed}
+use Rattle.rules.specs.Form.{Call}
+use Rattle.std.specs.Prelude.{Some, None}
 use Rattle.rules.specs.Table.{Table}
 use Rattle.rules.specs.Bag.{entry_at, is_hash, signer_of, period_of, board_of}
 use Rattle.rules.specs.State.{State}
@@ -73,8 +73,8 @@ module _ (T : Table) (few : (T.items ≤ row_items) × (T.n ≤ row_peers)) (j :
 
   pub call-placed : (s : State) → Valid T s → (c : Call) (m : Message) → passed_call T j s c ≡ some m → InPlace m × InBytes m
   unfolding passed_call
-  call-placed s G (Formed st) m e = passed_placed s G st m e
-  call-placed s G Malformed m e = absurd (none_some m e)
+  call-placed s G (Some st) m e = passed_placed s G st m e
+  call-placed s G None m e = absurd (none_some m e)
 
   -- the bytes of what a call passes read as what it passes
   pub passed_reads : (s : State) → Valid T s → (c : Call) (m : Message) → passed_call T j s c ≡ some m → read_as m (message_bytes j m) ≡ to j m

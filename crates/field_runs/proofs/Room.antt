@@ -11,8 +11,8 @@ use borrow.Author.Tests.{eqb-true, ltb-true}
 use Rattle.base.specs.Refusals.{Row, name, role, numbered}
 use Rattle.base.proofs.Truth.{and_i, and_l, and_r, not_i}
 use Rattle.rules.specs.declared.Entry.TheVariants.{Hash}
-use Rattle.rules.specs.declared.Call.{Call}
-use Rattle.rules.specs.declared.Call.TheVariants.{Formed, Malformed}
+use Rattle.rules.specs.Form.{Call}
+use Rattle.std.specs.Prelude.{Some, None}
 use Rattle.rules.specs.Table.{Table}
 use Rattle.rules.specs.Bag.{capacity}
 use Rattle.rules.specs.State.{State}
@@ -53,8 +53,8 @@ below a size f l = not_i (eqb a 13) (λ e. omega (arith, f (eqb-true a 13 e), lt
 
 reply_full : (T : Table) (s : State) (c : Call) → reply T s c ≡ 13 → capacity ≤ length s.bag
 unfolding reply
-reply_full T s (Formed st) e = (exact_edges T s).full_only st e
-reply_full T s Malformed e = absurd (omega (arith, e))
+reply_full T s (Some st) e = (exact_edges T s).full_only st e
+reply_full T s None e = absurd (omega (arith, e))
 
 module _ (T : Table) (j : ℕ) {X : Type 0} (E : Engine X) (Ready : X → Type 0) (F : Follows T E Ready) where
   pub room-call : (x : X) → Ready x → (b : Box) (c : List ℕ) → both_below T j E x b ≡ true → (o : Option Message)

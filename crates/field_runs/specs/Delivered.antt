@@ -6,8 +6,8 @@ use Rattle.rules.specs.declared.Entry.{Entry}
 use Rattle.rules.specs.declared.Entry.TheVariants.{Hash, Backing}
 use Rattle.rules.specs.declared.Step.{Step}
 use Rattle.rules.specs.declared.Step.TheVariants.{Post, Hand, Sign, Take, Share, Receipt, Close, Fetch, SendHash, Hear, Back, Publish, FalseSignature, FalseShare, FalseHash, FalseBacking, Down, Up, ClearHashes}
-use Rattle.rules.specs.declared.Call.{Call}
-use Rattle.rules.specs.declared.Call.TheVariants.{Formed, Malformed}
+use Rattle.rules.specs.Form.{Call}
+use Rattle.std.specs.Prelude.{Some, None}
 use Rattle.rules.specs.Bag.{is_in, enter}
 use Rattle.rules.specs.State.{State}
 use Rattle.field_rules.specs.Message.{Sent, signature, share, hash, backing}
@@ -71,8 +71,8 @@ is_of j (Receipt p x) = false
 is_of j (Publish e) = false
 
 unfoldable pub is_call_of : ℕ → Call → Bool
-is_call_of j (Formed st) = is_of j st
-is_call_of j Malformed = false
+is_call_of j (Some st) = is_of j st
+is_call_of j None = false
 
 -- in peer j's name the one outside has what the other has, but that hashes may be gone: o is the outside after a step,
 -- w the one before it with what j sends

@@ -4,8 +4,8 @@ use Rattle.std.proofs.Math.Option.{Option, none, some}
 use Rattle.rules.specs.declared.Entry.{Entry}
 use Rattle.rules.specs.declared.Step.{Step}
 use Rattle.rules.specs.declared.Step.TheVariants.{Post, Hand, Sign, Take, Share, Receipt, Close, Fetch, SendHash, Hear, Back, Publish, FalseSignature, FalseShare, FalseHash, FalseBacking, Down, Up, ClearHashes}
-use Rattle.rules.specs.declared.Call.{Call}
-use Rattle.rules.specs.declared.Call.TheVariants.{Formed, Malformed}
+use Rattle.rules.specs.Form.{Call}
+use Rattle.std.specs.Prelude.{Some, None}
 use Rattle.rules.specs.Table.{Table}
 use Rattle.rules.specs.Bag.{entry_at, is_hash, signer_of, period_of, board_of}
 use Rattle.rules.specs.State.{State}
@@ -75,12 +75,12 @@ module _ (T : Table) (j : ℕ) (s : State) where
 
   -- the same of a call: one that is malformed passes and sends nothing
   unfoldable pub passed_call : Call → Option Message
-  passed_call (Formed st) = passed st
-  passed_call Malformed = none
+  passed_call (Some st) = passed st
+  passed_call None = none
 
   unfoldable pub sent_call : Call → ℕ → Option Sent
-  sent_call (Formed st) a = sent_by st a
-  sent_call Malformed a = none
+  sent_call (Some st) a = sent_by st a
+  sent_call None a = none
 
 -- peer j's part of a state, as a box that has heard the hashes H
 abbrev pub part_of : State → ℕ → List Entry → Box

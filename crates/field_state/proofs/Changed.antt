@@ -1,10 +1,11 @@
 -- What a bit set and a byte stored do to what the bytes say.
 use Prim.Native.Nat.{ℕ, ◌+◌, ◌-◌, ◌*◌, ◌<◌, ◌≤◌}
 use native.Mathlib.Omega.{arith}
-use mathlib.Core.Bool.{true, false, ◌&&◌, ◌||◌}
+use mathlib.Core.Bool.{Bool, true, false, ◌&&◌, ◌||◌}
 use mathlib.Core.List.{List}
 use mathlib.Core.Path.{◌≡◌, sym, ap, ap₂, fun_ext, subst, ◌∙◌}
 use mathlib.Core.Logic.{◌⊎◌, inl, inr}
+use Rattle.base.specs.Bits.{digit}
 use lib.Dec.{eqb}
 use lib.ListN.{set, length-set}
 use lib.Seq.{get_or-set_same, get_or-set_other}
@@ -270,13 +271,10 @@ module _ (s : List ℕ) (c : Canon s) where
   unfolding with_to_back
   to_back_done t v l q = set_to_back t v l q
 
-  pub fall_done : (t : List ℕ) → t ≡ set s down_at 1 → Holds t (with_down true (box_of s))
+  pub down_done : (t : List ℕ) (v : ℕ) (down : Bool) → v ≡ digit down → t ≡ set s down_at v → Holds t (with_down down (box_of s))
   unfolding with_down
-  fall_done t q = set_down t 1 (omega arith) q
-
-  pub rise_done : (t : List ℕ) → t ≡ set s down_at 0 → Holds t (with_down false (box_of s))
-  unfolding with_down
-  rise_done t q = set_down t 0 (omega arith) q
+  down_done t v true e q = set_down t 1 (omega arith) (q ∙ ap (set s down_at) e)
+  down_done t v false e q = set_down t 0 (omega arith) (q ∙ ap (set s down_at) e)
 
 -- a counter raised
 pub raised_current : (s t : List ℕ) (k m : Counters) → k.current ≡ (box_of s).current → m ≡ rise_current k

@@ -195,11 +195,6 @@ pub read_same : (b : ℕ) {r v : ℕ} → r ≡ v → eqb b r ≡ eqb b v
 read_same b e = ap (λ (x : ℕ). eqb b x) e
 
 -- the search, as the code has it
-pub heard_found : (s : List ℕ) (k p B e n : ℕ) {r : Bool} → r ≡ same_at s k p B e → r ≡ true → e < n → n ≡ heard_count s
-    → true ≡ is_in (Hash k p B) (heard_in s)
-heard_found s k p B e n q t l m = sym (any_at (same_at s k p B) e (heard_count s) (omega (arith, l, m)) (sym q ∙ t)) ∙ heard_any s k p B
-
-pub heard_missed : (s : List ℕ) (k p B e n : ℕ) → any e (same_at s k p B) ≡ false → e ≤ n → n ≤ e → n ≡ heard_count s
-    → false ≡ is_in (Hash k p B) (heard_in s)
-heard_missed s k p B e n none a b m = sym none ∙ ap (λ (i : ℕ). any i (same_at s k p B)) {x = e} {y = heard_count s} (omega arith) ∙ heard_any
-    s k p B
+pub heard_searched : (s : List ℕ) (k p B n : ℕ) {r : Bool} → n ≡ heard_count s → r ≡ any n (same_at s k p B)
+    → r ≡ is_in (Hash k p B) (heard_in s)
+heard_searched s k p B n e q = q ∙ ap (λ (m : ℕ). any m (same_at s k p B)) e ∙ heard_any s k p B

@@ -1,12 +1,11 @@
 // The peer's part, changed.
-ghost use Rattle.std.specs.Prelude.{◌≡◌, true, false, ◌+◌, ◌<◌};
+ghost use Rattle.std.specs.Prelude.{◌≡◌, ◌+◌, ◌<◌};
 ghost use Rattle.state.specs.Facts.{Cell, Spot};
 ghost use Rattle.field_state.specs.Holding.{box_of, Canon, Holds};
 ghost use Rattle.field_state.specs.Parts.{with_held, with_given, with_known, with_current, with_to_back, with_down};
 
 use crate::layout;
 use crate::part::{current, to_back};
-use base::wide;
 use counters::Counters;
 use state::layout::PEERS;
 use state::place::cell_of;
@@ -32,7 +31,10 @@ pub fn know(s: &mut [u8], p: u8, x: u8, k: u8)
     requires { Canon s.old × Spot k p x }
     ensures { Holds s.new (with_known p x k (box_of s.old)) }
 {
-    bits::put(s, 8 * layout::KNOWN + (cell_of(p, x) * PEERS + wide(k - 1)));
+    bits::put(
+        s,
+        8 * layout::KNOWN + (cell_of(p, x) * PEERS + (k - 1) as usize),
+    );
 }
 
 // Its counters.
@@ -46,30 +48,13 @@ fn counters_of(s: &[u8]) -> Counters
     }
 }
 
-// Stores the open period.
-fn set_current(s: &mut [u8], v: u8)
-    requires { Canon s.old }
-    ensures { Holds s.new (with_current v (box_of s.old)) }
-{
-    s[layout::CURRENT] = v;
-}
-
-// Stores the next period to back.
-fn set_to_back(s: &mut [u8], v: u8)
-    requires { Canon s.old }
-    ensures { Holds s.new (with_to_back v (box_of s.old)) }
-{
-    s[layout::TO_BACK] = v;
-}
-
 // The open period rises by one.
 pub fn raise_current(s: &mut [u8])
     requires { Canon s.old × ((box_of s.old).current < 255) }
     ensures { Holds s.new
         (with_current ((box_of s.old).current + 1) (box_of s.old)) }
 {
-    let k = counters::after_close(counters_of(s));
-    set_current(s, k.current);
+    s[layout::CURRENT] = counters::after_close(counters_of(s)).current;
 }
 
 // The next period to back rises by one.
@@ -78,22 +63,13 @@ pub fn raise_to_back(s: &mut [u8])
     ensures { Holds s.new
         (with_to_back ((box_of s.old).to_back + 1) (box_of s.old)) }
 {
-    let k = counters::after_back(counters_of(s));
-    set_to_back(s, k.to_back);
+    s[layout::TO_BACK] = counters::after_back(counters_of(s)).to_back;
 }
 
-// It is down.
-pub fn fall(s: &mut [u8])
+// It is down, or up.
+pub fn set_down(s: &mut [u8], down: bool)
     requires { Canon s.old }
-    ensures { Holds s.new (with_down true (box_of s.old)) }
+    ensures { Holds s.new (with_down down (box_of s.old)) }
 {
-    s[layout::DOWN] = 1;
-}
-
-// It is up.
-pub fn rise(s: &mut [u8])
-    requires { Canon s.old }
-    ensures { Holds s.new (with_down false (box_of s.old)) }
-{
-    s[layout::DOWN] = 0;
+    s[layout::DOWN] = down as u8;
 }

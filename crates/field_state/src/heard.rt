@@ -10,6 +10,14 @@ ghost use Rattle.field_state.specs.Hearing.{same_at, hash_written, hearing};
 use crate::layout;
 use state::layout::{COUNT_BYTES, ITEM_BYTES};
 
+// A hash, as a peer sends it: who signed it, for which period, of which board.
+#[derive(Clone, Copy)]
+pub struct SignedHash {
+    pub signer: u8,
+    pub period: u8,
+    pub board: u64,
+}
+
 // How many hashes are heard.
 pub fn heard_len(s: &[u8]) -> usize
     requires { Canon s.now }
@@ -19,65 +27,51 @@ pub fn heard_len(s: &[u8]) -> usize
 }
 
 // Whether heard hash e is this one.
-pub fn is_at(s: &[u8], e: usize, k: u8, p: u8, board: u64) -> bool
+pub fn is_at(s: &[u8], e: usize, x: SignedHash) -> bool
     requires { (length s.now ≡ size) × (e < entries) }
-    ensures { result ≡ same_at s.now k p board e }
+    ensures { result ≡ same_at s.now x.signer x.period x.board e }
 {
     let o = layout::HEARD + layout::HASH_SIZE * e;
-    if k != s[o] {
-        return false;
-    }
-    if p != s[o + 1] {
-        return false;
-    }
-    board == bits::load(s, o + 2, ITEM_BYTES)
+    x.signer == s[o] && x.period == s[o + 1] && x.board == bits::load(s, o + 2, ITEM_BYTES)
 }
 
-// Whether the hash of signer k, period p and board is heard.
-pub fn is_heard(s: &[u8], k: u8, p: u8, board: u64) -> bool
+// Whether the hash is heard.
+pub fn is_heard(s: &[u8], x: SignedHash) -> bool
     requires { Canon s.now }
-    ensures { result ≡ is_in (Hash k p board) (box_of s.now).heard }
+    ensures { result ≡ is_in (Hash x.signer x.period x.board) (box_of s.now).heard }
 {
-    let n = heard_len(s);
-    let mut e = 0;
-    while e < n {
-        if is_at(s, e, k, p, board) {
-            return true;
-        }
-        e += 1;
-    }
-    false
+    (0..heard_len(s)).any(|e| is_at(s, e, x))
 }
 
 // Writes a hash from o on.
-fn write(s: &mut [u8], o: usize, k: u8, p: u8, board: u64)
+fn write(s: &mut [u8], o: usize, x: SignedHash)
     requires { o + hash_size ≤ length s.old }
-    ensures { (s.new ≡ hash_written s.old o k p board)
-        × ((k < 256) × ((p < 256) × (board < 256 ^ 8))) }
+    ensures { (s.new ≡ hash_written s.old o x.signer x.period x.board)
+        × ((x.signer < 256) × ((x.period < 256) × (x.board < 256 ^ 8))) }
 {
-    s[o] = k;
-    s[o + 1] = p;
-    bits::store(s, o + 2, ITEM_BYTES, board);
+    s[o] = x.signer;
+    s[o + 1] = x.period;
+    bits::store(s, o + 2, ITEM_BYTES, x.board);
 }
 
 // Adds a hash at the end.
-fn append(s: &mut [u8], k: u8, p: u8, board: u64)
-    requires { Canon s.old × (heard_count s.old < entries) × (is_in (Hash k p board) (box_of
-        s.old).heard ≡ false) }
-    ensures { Holds s.new (hearing k p board (box_of s.old)) }
+fn append(s: &mut [u8], x: SignedHash)
+    requires { Canon s.old × (heard_count s.old < entries) × (is_in (Hash x.signer x.period x.board)
+        (box_of s.old).heard ≡ false) }
+    ensures { Holds s.new (hearing x.signer x.period x.board (box_of s.old)) }
 {
     let n = heard_len(s);
-    write(s, layout::HEARD + layout::HASH_SIZE * n, k, p, board);
+    write(s, layout::HEARD + layout::HASH_SIZE * n, x);
     bits::store(s, layout::COUNT, COUNT_BYTES, (n + 1) as u64);
 }
 
 // Notes a hash, unless it is heard; there is room for it.
-pub fn hear(s: &mut [u8], k: u8, p: u8, board: u64)
-    requires { Canon s.old × (is_full (Hash k p board) (box_of s.old).heard ≡ false) }
-    ensures { Holds s.new (hearing k p board (box_of s.old)) }
+pub fn hear(s: &mut [u8], x: SignedHash)
+    requires { Canon s.old × (is_full (Hash x.signer x.period x.board) (box_of s.old).heard ≡ false) }
+    ensures { Holds s.new (hearing x.signer x.period x.board (box_of s.old)) }
 {
-    if is_heard(s, k, p, board) {
+    if is_heard(s, x) {
         return;
     }
-    append(s, k, p, board);
+    append(s, x);
 }

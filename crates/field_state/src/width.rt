@@ -8,8 +8,5 @@ use header::Head;
 pub fn width_at(h: Head, x: u8) -> u8
     ensures { result ≡ width_at h x }
 {
-    if x < h.items {
-        return h.n;
-    }
-    0
+    if x < h.items { h.n } else { 0 }
 }

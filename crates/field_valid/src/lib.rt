@@ -1,5 +1,5 @@
 // Row 14: whether a lent buffer is a state of the field peer. It need not be one that messages lead to.
-// It uses field_state's layout, bits to read, and bag_valid's marks.
+// It uses field_state's layout, bits to read, and marks to tell hashes apart, by bag_valid's numbers.
 #![tactic(auto)]
 
 ghost use Rattle.std.specs.Prelude.{◌≡◌, ◌+◌, ◌*◌, ◌^◌, ◌<◌, ◌≤◌, ltb, length};
@@ -11,7 +11,6 @@ ghost use Rattle.field_valid.specs.SignerSets.{signers_ok};
 ghost use Rattle.field_valid.specs.BoxOk.{row_width, cell_ok, spots_in, numbers_ok, hash_ok, hashes_ok, box_ok};
 
 use crate::distinct::all_new;
-use base::wide;
 use field_state::layout;
 use header::Head;
 use state::layout::{ENTRIES, ITEM_BYTES, PEER_BYTES};
@@ -21,21 +20,20 @@ mod distinct; // no two heard hashes are the same
 const ROW_BYTES: usize = 128; // of the sets of signers of one period
 
 // How many bits a set of items of period p may have.
+#[tactic(auto, unfolding(crate::specs::BoxOk::row_width))]
 fn row_width(h: Head, p: u8) -> u8
     ensures { result ≡ row_width h p }
 {
-    if p < h.periods {
-        return h.items;
-    }
-    0
+    if p < h.periods { h.items } else { 0 }
 }
 
 // The set of items of period p has items of the table only.
+#[tactic(auto, unfolding(crate::specs::BoxOk::cell_ok))]
 fn cell_ok(s: &[u8], h: Head, o: usize, p: u8) -> bool
     requires { Room h × ((length s.now ≡ size) × ((o ≤ 64) × (p < periods))) }
     ensures { result ≡ cell_ok h s.now o p }
 {
-    let v = bits::load(s, o + ITEM_BYTES * wide(p), ITEM_BYTES);
+    let v = bits::load(s, o + ITEM_BYTES * p as usize, ITEM_BYTES);
     bits::is_below(v, row_width(h, p))
 }
 
@@ -44,14 +42,7 @@ fn cells_ok(s: &[u8], h: Head, o: usize) -> bool
     requires { Room h × ((length s.now ≡ size) × (o ≤ 64)) }
     ensures { result ≡ every periods (cell_ok h s.now o) }
 {
-    let mut p: u8 = 0;
-    while p < 8 {
-        if !cell_ok(s, h, o, p) {
-            return false;
-        }
-        p += 1;
-    }
-    true
+    (0..8u8).all(|p| cell_ok(s, h, o, p))
 }
 
 // Whether a set of signers has only the first n peers.
@@ -68,12 +59,9 @@ fn signers_ok(s: &[u8], h: Head, o: usize) -> bool
     requires { Room h × ((length s.now ≡ size) × (o ≤ 1024)) }
     ensures { result ≡ every h.items (signers_ok h.n s.now o) }
 {
-    let m = wide(h.items);
     let mut sum: u16 = 0;
-    let mut x = 0;
-    while x < m {
+    for x in 0..h.items as usize {
         sum = sum | bits::word(s, o + PEER_BYTES * x);
-        x += 1;
     }
     is_narrow(sum, h.n)
 }
@@ -83,8 +71,8 @@ fn spots_in(s: &[u8], h: Head, p: u8) -> bool
     requires { Room h × ((length s.now ≡ size) × (p < h.periods)) }
     ensures { result ≡ spots_in h s.now p }
 {
-    let o = layout::KNOWN + ROW_BYTES * wide(p);
-    let used = PEER_BYTES * wide(h.items);
+    let o = layout::KNOWN + ROW_BYTES * p as usize;
+    let used = PEER_BYTES * h.items as usize;
     if !bits::all_zero(s, o + used, ROW_BYTES - used) {
         return false;
     }
@@ -96,14 +84,7 @@ fn each_spots(s: &[u8], h: Head) -> bool
     requires { Room h × (length s.now ≡ size) }
     ensures { result ≡ every h.periods (spots_in h s.now) }
 {
-    let mut p: u8 = 0;
-    while p < h.periods {
-        if !spots_in(s, h, p) {
-            return false;
-        }
-        p += 1;
-    }
-    true
+    (0..h.periods).all(|p| spots_in(s, h, p))
 }
 
 // So have the sets of each period. Behind the table's periods all bytes are 0.
@@ -111,7 +92,7 @@ fn spots_ok(s: &[u8], h: Head) -> bool
     requires { Room h × (length s.now ≡ size) }
     ensures { result ≡ every periods (spots_in h s.now) }
 {
-    let end = layout::KNOWN + ROW_BYTES * wide(h.periods);
+    let end = layout::KNOWN + ROW_BYTES * h.periods as usize;
     if !bits::all_zero(s, end, layout::CURRENT - end) {
         return false;
     }
@@ -119,35 +100,26 @@ fn spots_ok(s: &[u8], h: Head) -> bool
 }
 
 // The counters and the flag are in range.
+#[tactic(auto, unfolding(crate::specs::BoxOk::numbers_ok))]
 fn numbers_ok(s: &[u8], h: Head) -> bool
     requires { length s.now ≡ size }
     ensures { result ≡ numbers_ok h s.now }
 {
-    if s[layout::CURRENT] > h.periods {
-        return false;
-    }
-    if s[layout::TO_BACK] > s[layout::CURRENT] {
-        return false;
-    }
-    s[layout::DOWN] <= 1
+    s[layout::CURRENT] <= h.periods
+        && s[layout::TO_BACK] <= s[layout::CURRENT]
+        && s[layout::DOWN] <= 1
 }
 
 // Heard hash e is of the table.
+#[tactic(auto, unfolding(crate::specs::BoxOk::hash_ok))]
 fn hash_ok(s: &[u8], h: Head, e: usize) -> bool
     requires { Room h × ((length s.now ≡ size) × (e < entries)) }
     ensures { result ≡ hash_ok h s.now e }
 {
     let o = layout::HEARD + layout::HASH_SIZE * e;
-    if s[o] < 1 {
-        return false;
-    }
-    if s[o] > h.n {
-        return false;
-    }
-    if s[o + 1] >= h.periods {
-        return false;
-    }
-    bits::is_below(bits::load(s, o + 2, ITEM_BYTES), h.items)
+    (1..=h.n).contains(&s[o])
+        && s[o + 1] < h.periods
+        && bits::is_below(bits::load(s, o + 2, ITEM_BYTES), h.items)
 }
 
 // So is each of the first n.
@@ -155,14 +127,7 @@ fn all_ok(s: &[u8], h: Head, n: usize) -> bool
     requires { Room h × ((length s.now ≡ size) × (n ≤ entries)) }
     ensures { result ≡ every n (hash_ok h s.now) }
 {
-    let mut e = 0;
-    while e < n {
-        if !hash_ok(s, h, e) {
-            return false;
-        }
-        e += 1;
-    }
-    true
+    (0..n).all(|e| hash_ok(s, h, e))
 }
 
 // At most 256 hashes are heard, each of the table, no two the same, and only 0 stands after the last.
@@ -185,24 +150,15 @@ fn hashes_ok(s: &[u8], h: Head) -> bool
 }
 
 // Row 14: whether the bytes are a state of the field peer.
+#[tactic(auto, unfolding(crate::specs::BoxOk::box_ok))]
 pub fn box_ok(s: &[u8], h: Head) -> bool
     requires { Room h }
     ensures { result ≡ box_ok h s.now }
 {
-    if s.len() != layout::SIZE {
-        return false;
-    }
-    if !numbers_ok(s, h) {
-        return false;
-    }
-    if !cells_ok(s, h, layout::HELD) {
-        return false;
-    }
-    if !cells_ok(s, h, layout::GAVE) {
-        return false;
-    }
-    if !spots_ok(s, h) {
-        return false;
-    }
-    hashes_ok(s, h)
+    s.len() == layout::SIZE
+        && numbers_ok(s, h)
+        && cells_ok(s, h, layout::HELD)
+        && cells_ok(s, h, layout::GAVE)
+        && spots_ok(s, h)
+        && hashes_ok(s, h)
 }

@@ -60,20 +60,6 @@ pub packed_counted : (S : ℕ → Bool) (m : ℕ) {set v : ℕ} → m ≤ 64 →
 packed_counted S m {set} {v} few e q =
     q ∙ how_many_ext m (bit set) S (λ k l. ap (λ (y : ℕ). bit y k) e ∙ bit-pack 64 S k (omega arith))
 
--- an entry that the match found
-module _ (x : Entry) (k p B : ℕ) where
-  pub hash_none : x ≡ Hash k p B → 0 ≡ published_by x
-  unfolding published_by
-  hash_none e = rw e
-
-  pub backing_none : x ≡ Backing k p B → 0 ≡ published_by x
-  unfolding published_by
-  backing_none e = rw e
-
-  pub board-all : x ≡ Board p B → B ≡ published_by x
-  unfolding published_by
-  board-all e = rw e
-
 pub entry_counted : (m : ℕ) {x y : Entry} {set v : ℕ} → x ≡ y → set ≡ published_by x → v ≡ how_many m (bit set) → v ≡ entry_items m y
 entry_counted m {x} {y} {set} {v} e q r = r ∙ ap (λ (b : ℕ). how_many m (bit b)) q ∙ ap (entry_items m) e
 
@@ -94,7 +80,5 @@ module _ (m : ℕ) where
   bag_counted (Board p B ∷ bag) = first_apart (Board p B) bag (bag_counted bag)
 
   -- when all entries are passed
-  pub bag_all : (bag : List Entry) (n e v : ℕ) → n ≡ length bag → e ≤ n → n ≤ e → v ≡ sum e (λ i. entry_items m (entry_at bag i))
-      → v ≡ items_on m (boards_in bag)
-  bag_all bag n e v long a b q =
-      q ∙ ap (λ (k : ℕ). sum k (λ i. entry_items m (entry_at bag i))) {x = e} {y = length bag} (omega (arith, long, a, b)) ∙ bag_counted bag
+  pub bag_all : (bag : List Entry) (n v : ℕ) → n ≡ length bag → v ≡ sum n (λ i. entry_items m (entry_at bag i)) → v ≡ items_on m (boards_in bag)
+  bag_all bag n v long q = q ∙ ap (λ (k : ℕ). sum k (λ i. entry_items m (entry_at bag i))) long ∙ bag_counted bag

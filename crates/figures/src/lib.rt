@@ -39,7 +39,7 @@ fn count_items(set: u64, m: u8) -> u32
     requires { m ≤ 64 }
     ensures { (result ≡ how_many m (bit set)) × (result ≤ 64) }
 {
-    u64::count_ones(below(set, m))
+    below(set, m).count_ones()
 }
 
 // How many items are posted.
@@ -55,24 +55,21 @@ fn receipts(s: &[u8], h: Head) -> u32
     requires { Canon s.now × (h.items ≤ 64) }
     ensures { result ≡ receipt_count h.periods h.items (outside_of (state_on s.now)).receipts }
 {
-    let periods = h.periods;
     let mut count: u32 = 0;
-    let mut p: u8 = 0;
-    while p < periods {
+    for p in 0..h.periods {
         count += count_items(receipted_in(s, p), h.items);
-        p += 1;
     }
     count
 }
 
 // The items that an entry publishes, as a set: those of a board, and none of a hash or a backing.
+#[tactic(auto, unfolding(crate::specs::Entries::published_by))]
 fn published_by(x: Entry) -> u64
     ensures { result ≡ published_by x }
 {
     match x {
-        Entry::Hash(_, _, _) => 0,
-        Entry::Backing(_, _, _) => 0,
         Entry::Board(_, board) => board,
+        _ => 0,
     }
 }
 
@@ -81,12 +78,9 @@ fn items(s: &[u8], h: Head) -> u32
     requires { Canon s.now × (h.items ≤ 64) }
     ensures { result ≡ items_on h.items (outside_of (state_on s.now)).boards }
 {
-    let n = bag_len(s);
     let mut count: u32 = 0;
-    let mut e = 0;
-    while e < n {
+    for e in 0..bag_len(s) {
         count += count_items(published_by(entry_at(s, e)), h.items);
-        e += 1;
     }
     count
 }

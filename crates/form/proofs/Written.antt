@@ -17,11 +17,12 @@ use Rattle.base.proofs.Tab.{tab-get_or}
 use Rattle.rules.specs.declared.Step.{Step}
 use Rattle.rules.specs.declared.Step.TheVariants.{Post, Hand, Sign, Take, Share, Receipt, Close, Fetch, SendHash}
 use Rattle.rules.specs.declared.Step.TheVariants.{Hear, Back, Publish, FalseSignature, FalseShare, FalseHash, FalseBacking, Down, Up, ClearHashes}
-use Rattle.rules.specs.declared.Call.{Call}
-use Rattle.rules.specs.declared.Call.TheVariants.{Formed, Malformed}
+use Rattle.rules.specs.Form.{Call}
+use Rattle.std.specs.Prelude.{Some, None}
 use Rattle.rules.specs.Form.{all_zero, formed, select, ops, later_ops, read}
-use Rattle.rules.specs.Fields.{Fields, of, fields}
-use Rattle.form.specs.Written.{board_byte, bytes_of, written, BothWays}
+use Rattle.rules.specs.declared.Fields.{Fields}
+use Rattle.rules.specs.Fields.{of, fields}
+use Rattle.form.specs.Written.{board_byte, bytes_of, held, written, BothWays}
 
 -- a step that is written is read
 
@@ -35,7 +36,7 @@ unfolding number_at
 board-read op j k p x B h =
     more B 0 _ (more B 1 _ (more B 2 _ (more B 3 _ (more B 4 _ (more B 5 _ (more B 6 _ (more B 7 0 (omega arith)))))))) ∙ div-one B
 
-pub read-written : (st : Step) → (fields st).board < 2 ^ 64 → read (written st) ≡ Formed st
+pub read-written : (st : Step) → (fields st).board < 2 ^ 64 → read (written st) ≡ Some st
 unfolding number_at all_zero formed select ops later_ops read
 read-written (Post x) h = refl
 read-written (Hand j x) h = refl
@@ -51,8 +52,8 @@ read-written (Back j) h = refl
 read-written (Publish e) h = refl
 read-written (FalseSignature j p x) h = refl
 read-written (FalseShare j p x) h = refl
-read-written (FalseHash j p B) h = ap (λ (C : ℕ). Formed (FalseHash j p C)) (board-read 0 0 0 0 0 B h)
-read-written (FalseBacking j p B) h = ap (λ (C : ℕ). Formed (FalseBacking j p C)) (board-read 0 0 0 0 0 B h)
+read-written (FalseHash j p B) h = ap (λ (C : ℕ). Some (FalseHash j p C)) (board-read 0 0 0 0 0 B h)
+read-written (FalseBacking j p B) h = ap (λ (C : ℕ). Some (FalseBacking j p C)) (board-read 0 0 0 0 0 B h)
 read-written (Down j) h = refl
 read-written (Up j) h = refl
 read-written (ClearHashes p) h = refl
@@ -81,16 +82,16 @@ written-bytes st op peer other period item = all-bytes (written st) (op, (peer, 
 -- bytes that are read are those of the step
 
 abbrev is_step : Call → Bool
-is_step (Formed st) = true
-is_step Malformed = false
+is_step (Some st) = true
+is_step None = false
 
-no_step_lem : {st : Step} {A : Type 0} → Malformed ≡ Formed st → A
+no_step_lem : {st : Step} {A : Type 0} → None ≡ Some st → A
 no_step_lem e = false_true (ap is_step e)
 
 -- in a list of readings the steps beside op n have the fields f n
 Have : (ℕ → Fields) → List (ℕ × Call) → Type 0
 Have f [] = Unit
-Have f (r ∷ rest) = ((st : Step) → r.1 ≡ Formed st → fields st ≡ f r.0) × Have f rest
+Have f (r ∷ rest) = ((st : Step) → r.1 ≡ Some st → fields st ≡ f r.0) × Have f rest
 
 infixr 20 ◌also◌
 ◌also◌ : {P Q : Type 0} → P → Q → P × Q
@@ -98,7 +99,7 @@ first also later = (first, later)
 
 -- a step whose other fields are 0 has these fields
 has : (a b c d : ℕ) (one : Step) (g : Fields) → (0 ≡ a → 0 ≡ b → 0 ≡ c → 0 ≡ d → fields one ≡ g)
-    → (st : Step) → formed (all_zero a b c d) one ≡ Formed st → fields st ≡ g
+    → (st : Step) → formed (all_zero a b c d) one ≡ Some st → fields st ≡ g
 unfolding formed all_zero
 has a b c d one g is st e = go (either (eqb (a + b + c + d) 0))
   where
@@ -134,29 +135,26 @@ all_have j k p x B =
     also tt
 
 -- the step that op finds has the fields f op
-found : (f : ℕ → Fields) (op : ℕ) (l : List (ℕ × Call)) → Have f l → (st : Step) → select op l ≡ Formed st → fields st ≡ f op
+found : (f : ℕ → Fields) (op : ℕ) (l : List (ℕ × Call)) → Have f l → (st : Step) → select op l ≡ Some st → fields st ≡ f op
 unfolding Have select
 found f op [] H st e = no_step_lem e
 found f op (r ∷ rest) H st e = go (found f op rest H.1 st) (either (eqb op r.0))
   where
-    go : (select op rest ≡ Formed st → fields st ≡ f op) → (eqb op r.0 ≡ true) ⊎ (eqb op r.0 ≡ false) → fields st ≡ f op
+    go : (select op rest ≡ Some st → fields st ≡ f op) → (eqb op r.0 ≡ true) ⊎ (eqb op r.0 ≡ false) → fields st ≡ f op
     go later (inl t) = H.0 st (rw t at e) ∙ ap f (sym (eqb-true op r.0 t))
     go later (inr t) = later (rw t at e)
 
 module _ (s : List ℕ) where
-  -- the fields that thirteen bytes hold
-  abbrev pub held : Fields
-  held = of (byte_at s 0) (byte_at s 1) (byte_at s 2) (byte_at s 3) (byte_at s 4) (number_at s 5 8)
-
   -- a step that is read has these fields
-  pub holds : (st : Step) → read s ≡ Formed st → (length s ≡ 13) × (fields st ≡ held)
+  pub holds : (st : Step) → read s ≡ Some st → (length s ≡ 13) × (fields st ≡ held s)
   unfolding read
   holds st e = go (either (eqb (length s) 13))
     where
-      go : (eqb (length s) 13 ≡ true) ⊎ (eqb (length s) 13 ≡ false) → (length s ≡ 13) × (fields st ≡ held)
+      go : (eqb (length s) 13 ≡ true) ⊎ (eqb (length s) 13 ≡ false) → (length s ≡ 13) × (fields st ≡ held s)
       go (inl t) =
-          let steps = all_have held.peer held.other held.period held.item held.board in
-          (eqb-true (length s) 13 t, found _ held.op _ steps st (rw t at e))
+          let f = held s in
+          let steps = all_have f.peer f.other f.period f.item f.board in
+          (eqb-true (length s) 13 t, found _ f.op _ steps st (rw t at e))
       go (inr t) = no_step_lem (rw t at e)
 
 module _ (s : List ℕ) (small : (i : ℕ) → byte_at s i < 256) where

@@ -1,10 +1,16 @@
 -- The thirteen bytes that a step is written as: op, peer, other, period, item (also entry number), and the board in
 -- eight bytes, high byte first.
 use Rattle.std.specs.Prelude.{ℕ, ◌/◌, ◌%◌, ◌^◌, ◌<◌, List, [], ◌∷◌, ◌≡◌}
+use Rattle.base.specs.Bytes.{byte_at, number_at}
 use Rattle.rules.specs.declared.Step.{Step}
-use Rattle.rules.specs.declared.Call.TheVariants.{Formed}
+use Rattle.std.specs.Prelude.{Some}
 use Rattle.rules.specs.Form.{read}
-use Rattle.rules.specs.Fields.{Fields, fields}
+use Rattle.rules.specs.declared.Fields.{Fields}
+use Rattle.rules.specs.Fields.{of, fields}
+
+-- the fields that thirteen bytes hold
+abbrev pub held : List ℕ → Fields
+held s = of (byte_at s 0) (byte_at s 1) (byte_at s 2) (byte_at s 3) (byte_at s 4) (number_at s 5 8)
 
 -- byte i of a board, counted from its low end
 abbrev pub board_byte : ℕ → ℕ → ℕ
@@ -23,5 +29,5 @@ written st = bytes_of (fields st)
 
 -- bytes say a step exactly if they are those that it is written as; a board is a number of 64 bits
 pub record BothWays (s : List ℕ) (st : Step) : Type 0 where
-  pub reads : s ≡ written st → (fields st).board < 2 ^ 64 → read s ≡ Formed st
-  pub writes : read s ≡ Formed st → (s ≡ written st) × ((fields st).board < 2 ^ 64)
+  pub reads : s ≡ written st → (fields st).board < 2 ^ 64 → read s ≡ Some st
+  pub writes : read s ≡ Some st → (s ≡ written st) × ((fields st).board < 2 ^ 64)

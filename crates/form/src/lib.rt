@@ -3,121 +3,75 @@
 #![tactic(auto)]
 
 ghost use Rattle.std.specs.Prelude.{◌≡◌};
-ghost use Rattle.rules.specs.Form.{all_zero, formed, select, later_ops, ops, read};
+ghost use Rattle.rules.specs.Form.{all_zero, select, ops, read};
+ghost use Rattle.form.specs.Written.{held};
 
-use rules::{Call, Step};
+use rules::{Fields, Step};
 
 // Whether fields that an op does not name are 0.
 pub fn all_zero(a: u8, b: u8, c: u8, board: u64) -> bool
     ensures { result ≡ all_zero a b c board }
 {
-    if a != 0 {
-        return false;
-    }
-    if b != 0 {
-        return false;
-    }
-    if c != 0 {
-        return false;
-    }
-    board == 0
+    (a, b, c, board) == (0, 0, 0, 0)
 }
 
-// The step, if its unused fields are 0.
-fn formed(ok: bool, step: Step) -> Call
-    ensures { result ≡ formed ok step }
+// The fields that thirteen bytes hold.
+pub fn fields_of(s: &[u8]) -> Fields
+    ensures { result ≡ held s.now }
 {
-    if ok {
-        return Call::Formed(step);
+    Fields {
+        op: base::byte_at(s, 0),
+        peer: base::byte_at(s, 1),
+        other: base::byte_at(s, 2),
+        period: base::byte_at(s, 3),
+        item: base::byte_at(s, 4),
+        board: base::number_at(s, 5, 8),
     }
-    Call::Malformed
 }
 
-// The step of an op from 10 on, of the fields peer j, other k, period p, item x and board.
-fn read_later(op: u8, j: u8, k: u8, p: u8, x: u8, board: u64) -> Call
-    ensures { result ≡ select op (later_ops j k p x board) }
+#[tactic(auto, using(crate::proofs::Ops::by_op), unfolding(rules::specs::Form::select, rules::specs::Form::ops, rules::specs::Form::later_ops))]
+// The step of these fields, if those that its op does not name are 0.
+fn read_op(f: Fields) -> Option<Step>
+    ensures { result ≡ select f.op (ops f.peer f.other f.period f.item f.board) }
 {
-    if op == 10 {
-        return formed(all_zero(k, p, 0, board), Step::Hear(j, x));
+    let Fields {
+        op,
+        peer: j,
+        other: k,
+        period: p,
+        item: x,
+        board,
+    } = f;
+    match op {
+        1 => all_zero(j, k, p, board).then_some(Step::Post(x)),
+        2 => all_zero(k, p, 0, board).then_some(Step::Hand(j, x)),
+        3 => all_zero(k, p, 0, board).then_some(Step::Sign(j, x)),
+        4 => all_zero(0, 0, 0, board).then_some(Step::Take(j, k, p, x)),
+        5 => all_zero(k, p, 0, board).then_some(Step::Share(j, x)),
+        6 => all_zero(j, k, 0, board).then_some(Step::Receipt(p, x)),
+        7 => all_zero(k, p, x, board).then_some(Step::Close(j)),
+        8 => all_zero(x, 0, 0, board).then_some(Step::Fetch(j, k, p)),
+        9 => all_zero(k, x, 0, board).then_some(Step::SendHash(j, p)),
+        10 => all_zero(k, p, 0, board).then_some(Step::Hear(j, x)),
+        11 => all_zero(k, p, x, board).then_some(Step::Back(j)),
+        12 => all_zero(j, k, p, board).then_some(Step::Publish(x)),
+        13 => all_zero(k, 0, 0, board).then_some(Step::FalseSignature(j, p, x)),
+        14 => all_zero(k, 0, 0, board).then_some(Step::FalseShare(j, p, x)),
+        15 => all_zero(k, x, 0, 0).then_some(Step::FalseHash(j, p, board)),
+        16 => all_zero(k, x, 0, 0).then_some(Step::FalseBacking(j, p, board)),
+        17 => all_zero(k, p, x, board).then_some(Step::Down(j)),
+        18 => all_zero(k, p, x, board).then_some(Step::Up(j)),
+        19 => all_zero(j, k, x, board).then_some(Step::ClearHashes(p)),
+        _ => None,
     }
-    if op == 11 {
-        return formed(all_zero(k, p, x, board), Step::Back(j));
-    }
-    if op == 12 {
-        return formed(all_zero(j, k, p, board), Step::Publish(x));
-    }
-    if op == 13 {
-        return formed(all_zero(k, 0, 0, board), Step::FalseSignature(j, p, x));
-    }
-    if op == 14 {
-        return formed(all_zero(k, 0, 0, board), Step::FalseShare(j, p, x));
-    }
-    if op == 15 {
-        return formed(all_zero(k, x, 0, 0), Step::FalseHash(j, p, board));
-    }
-    if op == 16 {
-        return formed(all_zero(k, x, 0, 0), Step::FalseBacking(j, p, board));
-    }
-    if op == 17 {
-        return formed(all_zero(k, p, x, board), Step::Down(j));
-    }
-    if op == 18 {
-        return formed(all_zero(k, p, x, board), Step::Up(j));
-    }
-    if op == 19 {
-        return formed(all_zero(j, k, x, board), Step::ClearHashes(p));
-    }
-    Call::Malformed
-}
-
-// The step of any op, of the same fields.
-fn read_op(op: u8, j: u8, k: u8, p: u8, x: u8, board: u64) -> Call
-    ensures { result ≡ select op (ops j k p x board) }
-{
-    if op == 1 {
-        return formed(all_zero(j, k, p, board), Step::Post(x));
-    }
-    if op == 2 {
-        return formed(all_zero(k, p, 0, board), Step::Hand(j, x));
-    }
-    if op == 3 {
-        return formed(all_zero(k, p, 0, board), Step::Sign(j, x));
-    }
-    if op == 4 {
-        return formed(all_zero(0, 0, 0, board), Step::Take(j, k, p, x));
-    }
-    if op == 5 {
-        return formed(all_zero(k, p, 0, board), Step::Share(j, x));
-    }
-    if op == 6 {
-        return formed(all_zero(j, k, 0, board), Step::Receipt(p, x));
-    }
-    if op == 7 {
-        return formed(all_zero(k, p, x, board), Step::Close(j));
-    }
-    if op == 8 {
-        return formed(all_zero(x, 0, 0, board), Step::Fetch(j, k, p));
-    }
-    if op == 9 {
-        return formed(all_zero(k, x, 0, board), Step::SendHash(j, p));
-    }
-    read_later(op, j, k, p, x, board)
 }
 
 // The step that the bytes of a call say.
-pub fn read_step(s: &[u8]) -> Call
+pub fn read_step(s: &[u8]) -> Option<Step>
     ensures { result ≡ read s.now }
 {
     if s.len() != 13 {
-        return Call::Malformed;
+        return None;
     }
-    let board = base::number_at(s, 5, 8);
-    read_op(
-        base::byte_at(s, 0),
-        base::byte_at(s, 1),
-        base::byte_at(s, 2),
-        base::byte_at(s, 3),
-        base::byte_at(s, 4),
-        board,
-    )
+    read_op(fields_of(s))
 }

@@ -1,5 +1,5 @@
 -- The line that is written, and how long it is at most: no file of 65,536 bytes has a gain of six digits.
-use Prim.Native.Nat.{ℕ, ◌/◌, ◌^◌, ◌<◌, ◌≤◌, min}
+use Prim.Native.Nat.{ℕ, ◌/◌, ◌<◌, ◌≤◌, min}
 use native.Mathlib.Omega.{arith}
 use mathlib.Core.Bool.{true, false, cond}
 use mathlib.Core.List.{List}
@@ -11,7 +11,8 @@ use borrow.Author.Tests.{lt-ltb, le-ltb, ltb-false}
 use Rattle.base.proofs.Sums.{sum_most}
 use Rattle.base.proofs.Tab.{length-tab}
 use Rattle.base.proofs.Truth.{either}
-use Rattle.text.specs.Wrote.{Wrote, over}
+use Rattle.text.specs.declared.Printer.{Printer}
+use Rattle.text.specs.Wrote.{Put}
 use Rattle.text.proofs.Digits.{field_most}
 use Rattle.report.specs.Lines.{refused_line}
 use Rattle.report.proofs.Sizes.{refused_most}
@@ -47,16 +48,15 @@ told_most_lem input = go (either (ltb input_most (length input)))
     go (inl e) = rw e (refused_most 15 (omega arith))
     go (inr e) = rw e (line_most_lem (gain (file_calls input)) (gain_most input (ltb-false input_most (length input) e)))
 
-module _ (input out is : List ℕ) {to : ℕ} where
-  pub too_long : input_most < length input → Wrote out 0 (refused_line 15) is to → Wrote out 0 (told input) is to
+module _ (input : List ℕ) {out is : Printer} where
+  pub too_long : input_most < length input → Put out (refused_line 15) is → Put out (told input) is
   unfolding told
   too_long l w = rw (lt-ltb input_most (length input) l) w
 
-  pub its_gain : {n : ℕ} → length input ≤ input_most → n ≡ gain (file_calls input) → Wrote out 0 (gain_line n) is to
-      → Wrote out 0 (told input) is to
+  pub its_gain : {n : ℕ} → length input ≤ input_most → n ≡ gain (file_calls input) → Put out (gain_line n) is → Put out (told input) is
   unfolding told
-  its_gain l e w = rw (le-ltb input_most (length input) l) (subst (λ (k : ℕ). Wrote out 0 (gain_line k) is to) e w)
+  its_gain l e w = rw (le-ltb input_most (length input) l) (subst (λ (k : ℕ). Put out (gain_line k) is) e w)
 
-  pub promised : length out < 2 ^ 64 → Wrote out 0 (told input) is to
-      → (to ≡ length (told input)) × ((to ≤ told_most) × (is ≡ over out 0 (told input)))
-  promised room w = (omega (arith, w.place, told_most_lem input), (omega (arith, w.place, told_most_lem input), w.bytes room))
+  -- the length of what was written from the start of a buffer on
+  pub long : out.at ≡ 0 → Put out (told input) is → (is.at ≡ length (told input)) × (is.at ≤ told_most)
+  long e w = (omega (arith, w.wrote.place, told_most_lem input, e), omega (arith, w.wrote.place, told_most_lem input, e))

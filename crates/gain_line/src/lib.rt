@@ -3,33 +3,34 @@
 #![tactic(auto)]
 
 ghost use Rattle.std.specs.Prelude.{◌≡◌, ◌≤◌, length};
-ghost use Rattle.text.specs.Wrote.{Wrote, over};
+ghost use Rattle.text.specs.Wrote.{over, Put};
 ghost use Rattle.gain_line.specs.Told.{gain_line, told, told_most};
 
+use base::refusal::Refusal;
 use rehearsal::INPUT_MOST;
 use report::lines::put_refused;
-use text::{put_byte, put_field, put_word};
+use text::Printer;
 
 // No output is longer.
 pub const TOLD_MOST: usize = 11;
 
 // The line of the gain.
-fn put_gain(out: &mut [u8], n: u64) -> usize
-    ensures { Wrote out.old 0 (gain_line n) out.new result }
+fn put_gain(out: &mut Printer, n: u64)
+    ensures { Put out.old (gain_line n) out.new }
 {
-    let a = put_word(out, 0, b"gain");
-    let b = put_field(out, a, n);
-    put_byte(out, b, b'\n')
+    out.word(b"gain");
+    out.field(n);
+    out.byte(b'\n');
 }
 
 // The gain of the steps of the input, or 15 where it is too long.
-fn put_told(input: &[u8], out: &mut [u8]) -> usize
-    ensures { Wrote out.old 0 (told input.now) out.new result }
+fn put_told(input: &[u8], out: &mut Printer)
+    ensures { Put out.old (told input.now) out.new }
 {
     if INPUT_MOST < input.len() {
-        return put_refused(out, 0, 15);
+        return put_refused(out, Refusal::Input);
     }
-    put_gain(out, gains::gain(input) as u64)
+    put_gain(out, gains::gain(input) as u64);
 }
 
 // The same, with its length.
@@ -38,5 +39,7 @@ pub fn tell(input: &[u8], out: &mut [u8]) -> usize
     ensures upper_bound { result ≤ told_most }
     ensures out_after { out.new ≡ over out.old 0 (told input.now) }
 {
-    put_told(input, out)
+    let mut printer = Printer::new(out);
+    put_told(input, &mut printer);
+    printer.at
 }

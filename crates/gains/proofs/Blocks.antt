@@ -1,14 +1,15 @@
 -- A block of steps: what is fresh in it, while the steps before it are struck.
-use Prim.Native.Nat.{ℕ, ◌+◌, ◌-◌, ◌*◌, ◌<◌, ◌≤◌}
+use Prim.Native.Nat.{ℕ, suc, ◌+◌, ◌*◌, ◌<◌, ◌≤◌}
 use native.Mathlib.Decide.{ℕ_discrete, dec_lt}
 use native.Mathlib.Omega.{arith}
 use mathlib.Core.Bool.{Bool, true, false, ◌&&◌, ◌||◌, not, or-false, and-false, and-true}
 use mathlib.Core.List.{List}
-use mathlib.Core.Path.{◌≡◌, sym, ap, subst, ◌∙◌}
+use mathlib.Core.Path.{◌≡◌, sym, ap, ◌∙◌}
 use mathlib.Core.Logic.{◌⊎◌, inl, inr}
 use lib.ListN.{length, set, length-set}
 use lib.Seq.{get_or-set_same, get_or-set_other}
 use borrow.Author.Tests.{eq-eqb, ne_eqb}
+use Rattle.std.specs.Prelude.{Some, None}
 use Rattle.base.specs.Bits.{digit}
 use Rattle.base.specs.Bytes.{byte_at, same_bytes}
 use Rattle.base.specs.Tab.{tab, FilledTo}
@@ -17,9 +18,9 @@ use Rattle.base.proofs.Bytes.{eq_of_same, same_sym, same_of_eq}
 use Rattle.base.proofs.Truth.{either, is_false, split, and_l, and_r, or_r, true_false}
 use Rattle.gains.specs.Gain.{is_op, is_among}
 use Rattle.gains.specs.File.{file_call, calls_to}
-use Rattle.gains.specs.Chains.{last_where, is_new, new_digit, new_like, is_fresh, Fresh}
+use Rattle.gains.specs.Chains.{last_where, below, is_new, new_digit, new_like, is_fresh, Fresh}
 use Rattle.gains.proofs.Counted.{op_read, among_more, among_before}
-use Rattle.gains.proofs.Last.{last_low, last_passes, last_any}
+use Rattle.gains.proofs.Last.{above, above-below, last_low, last_passes, last_any}
 
 -- at most one step is new and has the bytes of c
 
@@ -92,29 +93,33 @@ module _ (s : List ℕ) (j : ℕ) (block : List ℕ) (k : ℕ) (fresh : List ℕ
   fresh-other {op} room q n =
       none_struck (λ i l. is_false _ (λ e. split (like_16 block (file_call s j) i e) (op_read s j room q 16 ∙ ne_eqb op 16 n)))
 
-  module _ {at : ℕ} (q : at ≡ last_where (new_like block (file_call s j)) k) where
-    pub fresh-not-found : at ≡ 0 → Fresh s (j + 1) block k fresh
-    fresh-not-found z =
-        let none = sym (last_any (new_like block (file_call s j)) k) ∙ eq-eqb _ 0 (sym q ∙ z) in
-        none_struck (λ i l. is_false _ (λ e. true_false (sym none ∙ ap not (any_at (new_like block (file_call s j)) i k l e))))
+  pub fresh-not-found : None ≡ below (last_where (new_like block (file_call s j)) k) → Fresh s (j + 1) block k fresh
+  unfolding above
+  fresh-not-found told =
+      let last = last_where (new_like block (file_call s j)) k in
+      let zero-last : last ≡ 0 = sym (above-below last) ∙ ap above (sym told) in
+      let none = sym (last_any (new_like block (file_call s j)) k) ∙ eq-eqb _ 0 zero-last in
+      none_struck (λ i l. is_false _ (λ e. true_false (sym none ∙ ap not (any_at (new_like block (file_call s j)) i k l e))))
 
-    pub found-place : (at ≡ 0 → ⊥) → at - 1 < length fresh
-    found-place z = omega (arith, q, z, last_low (new_like block (file_call s j)) k, F.long)
+  module _ {at : ℕ} (told : Some at ≡ below (last_where (new_like block (file_call s j)) k)) where
+    is_last : suc at ≡ last_where (new_like block (file_call s j)) k
+    unfolding above
+    is_last = ap above told ∙ above-below (last_where (new_like block (file_call s j)) k)
 
-    pub fresh_struck : (at ≡ 0 → ⊥) → Fresh s (j + 1) block k (set fresh (at - 1) 0)
-    fresh_struck z = record {
-      long = omega (arith, length-set fresh (at - 1) 0, F.long);
-      each = λ i l. go i l (ℕ_discrete i (at - 1));
+    pub found-place : at < length fresh
+    found-place = omega (arith, is_last, last_low (new_like block (file_call s j)) k, F.long)
+
+    pub fresh_struck : Fresh s (j + 1) block k (set fresh at 0)
+    fresh_struck = record {
+      long = omega (arith, length-set fresh at 0, F.long);
+      each = λ i l. go i l (ℕ_discrete i at);
     }
       where
-        here : new_like block (file_call s j) (at - 1) ≡ true
-        here = last_passes (new_like block (file_call s j)) k (at - 1) (omega (arith, q, z))
+        here : new_like block (file_call s j) at ≡ true
+        here = last_passes (new_like block (file_call s j)) k at (sym is_last)
 
-        go : (i : ℕ) → i < k → Dec (i ≡ at - 1) → byte_at (set fresh (at - 1) 0) i ≡ digit (is_fresh s (j + 1) block i)
-        go i l (yes e) = rw e (get_or-set_same fresh (at - 1) 0 0 (found-place z) ∙ ap digit (sym (struck (at - 1) here)))
+        go : (i : ℕ) → i < k → Dec (i ≡ at) → byte_at (set fresh at 0) i ≡ digit (is_fresh s (j + 1) block i)
+        go i l (yes e) = rw e (get_or-set_same fresh at 0 0 found-place ∙ ap digit (sym (struck at here)))
         go i l (no d) =
-            get_or-set_other fresh (at - 1) i 0 0 d ∙ F.each i l
-            ∙ ap digit (stays i (is_false _ (λ e. like_once block (file_call s j) i (at - 1) e here d)))
-
-pub fresh-all : (s block fresh : List ℕ) (j b k : ℕ) → Fresh s j block k fresh → j ≤ b → b ≤ j → Fresh s b block k fresh
-fresh-all s block fresh j b k F l m = subst (λ (i : ℕ). Fresh s i block k fresh) (omega arith) F
+            get_or-set_other fresh at i 0 0 d ∙ F.each i l
+            ∙ ap digit (stays i (is_false _ (λ e. like_once block (file_call s j) i at e here d)))

@@ -5,13 +5,16 @@ use native.Mathlib.Omega.{arith}
 use mathlib.Core.Bool.{Bool, true, false}
 use mathlib.Core.List.{List}
 use mathlib.Core.Path.{◌≡◌, refl, sym, ap, ap₂, ◌∙◌}
+use lib.Dec.{eqb}
 use lib.ListN.{get_or}
+use lib.Pointwise.{pointwise}
 use borrow.Author.Tests.{eq-eqb, eqb-true}
+use Rattle.std.specs.Prelude.{Some, None}
 use Rattle.base.specs.Bytes.{byte_at, part, same_bytes}
-use Rattle.base.proofs.Bytes.{eq_of_same}
+use Rattle.base.proofs.Bytes.{eq_of_same, same_pointwise}
 use Rattle.base.proofs.Truth.{and_i, and_l, and_r, and_false}
 use Rattle.gains.specs.File.{file_call}
-use Rattle.gains.specs.Chains.{last_where, mix_to, mix_of, is_new, new_of, new_like, Chains}
+use Rattle.gains.specs.Chains.{last_where, below, mix_to, mix_of, is_new, new_of, new_like, Chains}
 use Rattle.gains.proofs.Last.{last_hit, last_miss, last_low, last_passes, last_within}
 
 -- the hash, byte after byte
@@ -20,19 +23,15 @@ pub mix_none : (c : List ℕ) → 0 ≡ mix_to c 0
 unfolding mix_to
 mix_none c = refl
 
-pub mix_more : (c : List ℕ) (i h x b : ℕ) → h ≡ mix_to c i → x ≡ byte_at c i → b ≡ x → (h * 257 + b) % 4093 ≡ mix_to c (i + 1)
+pub mix_more : (c : List ℕ) (i h b : ℕ) → h ≡ mix_to c i → b ≡ byte_at c i → (h * 257 + b) % 4093 ≡ mix_to c (i + 1)
 unfolding mix_to
-mix_more c i h x b e f g = rw (add-one i, e, g, f)
-
-pub mix_all : (c : List ℕ) (i h : ℕ) → h ≡ mix_to c i → i ≤ 13 → 13 ≤ i → h ≡ mix_of c
-unfolding mix_of
-mix_all c i h e l m = e ∙ ap (mix_to c) (omega arith)
+mix_more c i h b e f = rw (add-one i, e, f)
 
 -- the bytes of two steps
 pub same_parts : (s t : List ℕ) (i j : ℕ) (a b : List ℕ) {r : Bool} → a ≡ part t (13 * j) 13 → b ≡ part s (13 * i) 13
-    → r ≡ same_bytes a b → r ≡ same_bytes (file_call t j) (file_call s i)
+    → r ≡ pointwise eqb a b → r ≡ same_bytes (file_call t j) (file_call s i)
 unfolding file_call
-same_parts s t i j a b p q e = e ∙ ap₂ same_bytes p q
+same_parts s t i j a b p q e = e ∙ same_pointwise a b ∙ ap₂ same_bytes p q
 
 -- a walk along the chain of c's hash: the step that has the bytes of c is where the walk stands, or before that
 
@@ -84,11 +83,10 @@ module _ (s c : List ℕ) (k at : ℕ) (W : Walk s c k at) where
     unfolding new_of
     here_mix = eqb-true _ _ (and_r (is_new s (at - 1)) _ here_of)
 
-    pub walk_found : {r : Bool} → r ≡ same_bytes c (file_call s (at - 1)) → r ≡ true → at ≡ last_where (new_like s c) k
-    unfolding new_like
-    walk_found e t =
-        before ∙ sym (last_hit (new_like s c) (at - 1) (and_i _ _ here_new (sym e ∙ t)))
-        ∙ sym (W.met ∙ ap (last_where (new_like s c)) before)
+    pub walk_found : {r : Bool} → r ≡ same_bytes c (file_call s (at - 1)) → r ≡ true → Some (at - 1) ≡ below (last_where (new_like s c) k)
+    unfolding new_like below
+    walk_found e t = ap below (sym (last_hit (new_like s c) (at - 1) (and_i _ _ here_new (sym e ∙ t)))
+        ∙ sym (W.met ∙ ap (last_where (new_like s c)) before))
 
     -- the next one of the chain
     module _ {heads links : List ℕ} (C : Chains s k heads links) {x : ℕ} (q : x ≡ get_or links (at - 1) 0) where
@@ -106,6 +104,6 @@ module _ (s c : List ℕ) (k at : ℕ) (W : Walk s c k at) where
           stands s c k (at - 1) x (omega (arith, W.low))
           (W.met ∙ ap (last_where (new_like s c)) before ∙ last_miss (new_like s c) (at - 1) other) next_is
 
-  pub walk_ends : at ≤ 0 → 0 ≡ last_where (new_like s c) k
-  unfolding last_where
-  walk_ends z = sym (W.met ∙ ap (last_where (new_like s c)) {x = at} {y = 0} (omega arith))
+  pub walk_ends : at ≤ 0 → None ≡ below (last_where (new_like s c) k)
+  unfolding last_where below
+  walk_ends z = sym (ap below (W.met ∙ ap (last_where (new_like s c)) {x = at} {y = 0} (omega arith)))

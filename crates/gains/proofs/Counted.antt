@@ -3,12 +3,14 @@ use Prim.Native.Nat.{ℕ, zero, suc, ◌+◌, ◌-◌, ◌*◌, ◌/◌, ◌<◌
 use native.Mathlib.Decide.{ℕ_discrete}
 use native.Mathlib.Numerals.{add-one}
 use native.Mathlib.Omega.{arith}
-use mathlib.Core.Bool.{true, false, ◌&&◌, ◌||◌}
+use mathlib.Core.Bool.{Bool, true, false, ◌&&◌, ◌||◌}
 use mathlib.Core.List.{List, [], ◌∷◌, ◌++◌}
+use mathlib.Core.Logic.{◌⊎◌, inl, inr}
 use mathlib.Core.Path.{◌≡◌, refl, sym, ap, ap₂, subst, ◌∙◌}
 use lib.Dec.{eqb}
 use lib.ListN.{length, set, drop, replicate, length-set, length-drop, length-replicate}
 use lib.Seq.{length-take-le, get_or-take, get_or-drop, get_or-set_same, get_or-set_other}
+use mir.Val.{bool_byte}
 use borrow.Author.Tests.{eq-eqb, ne_eqb}
 use Rattle.base.specs.Bits.{digit}
 use Rattle.base.specs.Bytes.{byte_at, part, same_bytes}
@@ -46,17 +48,22 @@ module _ (s : List ℕ) (k : ℕ) (room : 13 * k + 13 ≤ length s) where
     unfolding adds
     adds-read = ap₂ ◌||◌ (op_read 9) (ap₂ ◌||◌ (op_read 12) (op_read 15))
 
-    pub adds_9 : op ≡ 9 → 1 ≡ digit (adds (file_call s k))
-    adds_9 e = rw (adds-read, e)
+    pub adds_some : (op ≡ 9) ⊎ ((op ≡ 12) ⊎ (op ≡ 15)) → true ≡ adds (file_call s k)
+    adds_some (inl e) = rw (adds-read, e)
+    adds_some (inr (inl e)) = rw (adds-read, e)
+    adds_some (inr (inr e)) = rw (adds-read, e)
 
-    pub adds_12 : op ≡ 12 → 1 ≡ digit (adds (file_call s k))
-    adds_12 e = rw (adds-read, e)
+    pub adds_none : ((op ≡ 9) ⊎ ((op ≡ 12) ⊎ (op ≡ 15)) → ⊥) → false ≡ adds (file_call s k)
+    adds_none n =
+        rw (adds-read, ne_eqb op 9 (λ e. n (inl e)), ne_eqb op 12 (λ e. n (inr (inl e))), ne_eqb op 15 (λ e. n (inr (inr e))))
 
-    pub adds_15 : op ≡ 15 → 1 ≡ digit (adds (file_call s k))
-    adds_15 e = rw (adds-read, e)
-
-    pub adds_none : (op ≡ 9 → ⊥) → (op ≡ 12 → ⊥) → (op ≡ 15 → ⊥) → 0 ≡ digit (adds (file_call s k))
-    adds_none a b c = rw (adds-read, ne_eqb op 9 a, ne_eqb op 12 b, ne_eqb op 15 c)
+-- what a test counts, 1 or 0
+pub byte_digit : {a b : Bool} → a ≡ b → bool_byte a ≡ digit b
+byte_digit {a} {b} e = ap bool_byte e ∙ go b
+  where
+    go : (b : Bool) → bool_byte b ≡ digit b
+    go true = refl
+    go false = refl
 
 -- one step more
 
@@ -72,9 +79,6 @@ pub counted_more : (s : List ℕ) (k r d : ℕ) → r ≡ count_of adds (calls_t
     → r + d ≡ count_of adds (calls_to s (k + 1))
 counted_more s k r d e f = ap₂ (λ (x y : ℕ). x + y) e f ∙ sym
     (ap (count_of adds) (more_calls s k) ∙ count-one adds (calls_to s k) (file_call s k))
-
-pub counted_all : (s : List ℕ) (k n r : ℕ) → r ≡ count_of adds (calls_to s k) → k ≤ n → n ≤ k → r ≡ count_of adds (calls_to s n)
-counted_all s k n r e l m = e ∙ ap (λ (i : ℕ). count_of adds (calls_to s i)) (omega arith)
 
 -- among those before
 
@@ -116,10 +120,7 @@ module _ (s : List ℕ) (k : ℕ) (turns : List ℕ) (room : 13 * k + 13 ≤ len
             let none : back_of i (file_call s k) ≡ false = back_is i ∙ rw (ne_eqb op 11 n) in
             omega (arith, backs_more i, ap digit none)
 
-    module _ (is : op ≡ 11) {x j : ℕ} (read : x ≡ byte_at s (13 * k + 1)) (widened : j ≡ x) where
-      at : j ≡ byte_at s (13 * k + 1)
-      at = widened ∙ read
-
+    module _ (is : op ≡ 11) {j : ℕ} (at : j ≡ byte_at s (13 * k + 1)) where
       of_j : (i : ℕ) → back_of i (file_call s k) ≡ eqb j i
       of_j i = back_is i ∙ rw (is, sym at)
 
@@ -129,24 +130,12 @@ module _ (s : List ℕ) (k : ℕ) (turns : List ℕ) (room : 13 * k + 13 ≤ len
       this : count_of (back_of j) (calls_to s (k + 1)) ≡ count_of (back_of j) (calls_to s k) + 1
       this = omega (arith, backs_more j, ap digit (of_j j ∙ eq-eqb j j refl))
 
-      pub turns_over : j < 256 → 8 ≤ byte_at turns j → Turns s (k + 1) turns
-      turns_over small full = record { long = U.long; each = λ i l. go i l (ℕ_discrete i j) }
+      pub one_turn : {v : ℕ} → j < 256 → v ≡ min (byte_at turns j + 1) 8 → Turns s (k + 1) (set turns j v)
+      one_turn {v} small is = record { long = length-set turns j v ∙ U.long; each = λ i l. go i l (ℕ_discrete i j) }
         where
-          go : (i : ℕ) → i < 256 → Dec (i ≡ j) → byte_at turns i ≡ min 8 (count_of (back_of i) (calls_to s (k + 1)))
-          go i l (yes e) = rw e (omega (arith, U.each j small, this, full))
-          go i l (no d) = U.each i l ∙ ap (λ (m : ℕ). min 8 m) (other i d)
-
-      pub one_turn : j < 256 → byte_at turns j < 8 → Turns s (k + 1) (set turns j (byte_at turns j + 1))
-      one_turn small low = record { long = length-set turns j (byte_at turns j + 1) ∙ U.long; each = λ i l. go i l (ℕ_discrete i j) }
-        where
-          go : (i : ℕ) → i < 256 → Dec (i ≡ j)
-              → byte_at (set turns j (byte_at turns j + 1)) i ≡ min 8 (count_of (back_of i) (calls_to s (k + 1)))
-          go i l (yes e) = rw e
-              (get_or-set_same turns j (byte_at turns j + 1) 0 (omega (arith, U.long)) ∙ omega (arith, U.each j small, this, low))
-          go i l (no d) = get_or-set_other turns j i (byte_at turns j + 1) 0 d ∙ U.each i l ∙ ap (λ (m : ℕ). min 8 m) (other i d)
-
-pub all_turns : (s turns : List ℕ) (k n : ℕ) → Turns s k turns → k ≤ n → n ≤ k → Turns s n turns
-all_turns s turns k n U l m = subst (λ (i : ℕ). Turns s i turns) (omega arith) U
+          go : (i : ℕ) → i < 256 → Dec (i ≡ j) → byte_at (set turns j v) i ≡ min 8 (count_of (back_of i) (calls_to s (k + 1)))
+          go i l (yes e) = rw e (get_or-set_same turns j v 0 (omega (arith, U.long)) ∙ omega (arith, is, U.each j small, this))
+          go i l (no d) = get_or-set_other turns j i v 0 d ∙ U.each i l ∙ ap (λ (m : ℕ). min 8 m) (other i d)
 
 -- all three parts
 

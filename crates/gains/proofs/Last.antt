@@ -8,7 +8,19 @@ use lib.Dec.{eqb}
 use borrow.Author.Tests.{ne_eqb}
 use Rattle.base.specs.Below.{any}
 use Rattle.base.proofs.Truth.{either, is_false, split}
-use Rattle.gains.specs.Chains.{last_where}
+use Rattle.std.specs.Prelude.{Option, Some, None}
+use Rattle.gains.specs.Chains.{last_where, below}
+
+-- a number that is found, and none
+
+unfoldable pub above : Option ℕ → ℕ
+above None = 0
+above (Some i) = suc i
+
+pub above-below : (n : ℕ) → above (below n) ≡ n
+unfolding above below
+above-below zero = refl
+above-below (suc i) = refl
 
 module _ (f : ℕ → Bool) where
   -- k passes, or not

@@ -12,7 +12,8 @@ use lib.Dec.{eqb}
 use lib.ListN.{length, get_or, set, take, replicate, length-set, length-replicate}
 use lib.Seq.{length-take-le, get_or-take, get_or-set_same, get_or-set_other}
 use borrow.Author.Tests.{eq-eqb, ne_eqb, not-true, not-false}
-use Rattle.base.specs.Bits.{digit}
+use Rattle.std.specs.Prelude.{Option}
+use Rattle.std.specs.Option.{is_some}
 use Rattle.base.specs.Below.{any}
 use Rattle.base.specs.Bytes.{byte_at, part, same_bytes}
 use Rattle.base.specs.Tab.{tab, FilledTo}
@@ -21,7 +22,7 @@ use Rattle.base.proofs.Tab.{filled_more}
 use Rattle.base.proofs.Truth.{either, split, and_i, and_false}
 use Rattle.gains.specs.Gain.{is_op, is_among}
 use Rattle.gains.specs.File.{file_call, calls_to}
-use Rattle.gains.specs.Chains.{last_where, mix_of, is_new, new_digit, new_of, new_like, Chains}
+use Rattle.gains.specs.Chains.{last_where, below, mix_of, is_new, new_of, new_like, Chains}
 use Rattle.gains.proofs.Counted.{op_read, among_more}
 use Rattle.gains.proofs.Chains.{like_other}
 use Rattle.gains.proofs.Last.{last_hit, last_miss, last_any}
@@ -52,26 +53,40 @@ module _ (s c : List ℕ) (is16 : is_op 16 c ≡ true) where
           ∙ sym (ap₂ ◌||◌ (sym r) (like_here k e) ∙ or-not (is_among c (calls_to s k)))
       go (inr e) r = ap₂ ◌||◌ r (e ∙ sym (like_other s c k e))
 
+-- a step is found, or none
+
+twice : (b : Bool) → not (not b) ≡ b
+twice true = refl
+twice false = refl
+
+some_below : (n : ℕ) → is_some (below n) ≡ not (eqb n 0)
+unfolding below
+some_below zero = refl
+some_below (suc i) = rw (ne_eqb (suc i) 0 (λ e. omega (arith, e)))
+
+none_found : {r : Option ℕ} {b : Bool} (n : ℕ) → is_some r ≡ not b → r ≡ below n → b ≡ eqb n 0
+none_found {r} {b} n e q = sym (twice b) ∙ ap not (sym e ∙ ap is_some q ∙ some_below n) ∙ twice (eqb n 0)
+
 -- whether step k is new
 module _ (s : List ℕ) (k : ℕ) (room : 13 * k + 13 ≤ length s) {op : ℕ} (q : op ≡ byte_at s (13 * k)) where
   pub no_backing : (op ≡ 16 → ⊥) → false ≡ is_new s k
   unfolding is_new
   no_backing n = rw (op_read s k room q 16, ne_eqb op 16 n)
 
-  pub found_new : {r m : ℕ} → op ≡ 16 → r ≡ last_where (new_like s (file_call s k)) m → k ≡ m → eqb r 0 ≡ is_new s k
+  pub found_new : {r : Option ℕ} {b : Bool} {m : ℕ} → op ≡ 16 → is_some r ≡ not b → r ≡ below (last_where (new_like s (file_call s k)) m) → k ≡ m
+      → b ≡ is_new s k
   unfolding is_new
-  found_new {r} {m} o e n =
+  found_new {r} {b} {m} o none e n =
+      none_found _ none e ∙
       let is16 : is_op 16 (file_call s k) ≡ true = op_read s k room q 16 ∙ eq-eqb op 16 o in
-      ap (λ (x : ℕ). eqb x 0) (e ∙ ap (last_where (new_like s (file_call s k))) (sym n)) ∙ last_any (new_like s (file_call s k)) k
+      ap (λ (x : ℕ). eqb x 0) (ap (last_where (new_like s (file_call s k))) (sym n)) ∙ last_any (new_like s (file_call s k)) k
       ∙ ap not (sym (among_new s (file_call s k) is16 k)) ∙ rw is16
 
-pub not_new : (s : List ℕ) (k : ℕ) {r : Bool} → r ≡ is_new s k → not r ≡ true → 0 ≡ new_digit s k
-unfolding new_digit
-not_new s k {r} e t = ap digit (sym (not-true r t) ∙ e)
+pub not_new : (s : List ℕ) (k : ℕ) {r : Bool} → r ≡ is_new s k → not r ≡ true → false ≡ is_new s k
+not_new s k {r} e t = sym (not-true r t) ∙ e
 
-pub new_one : (s : List ℕ) (k : ℕ) {r : Bool} → r ≡ is_new s k → not r ≡ false → 1 ≡ new_digit s k
-unfolding new_digit
-new_one s k {r} e t = ap digit (sym (not-false r t) ∙ e)
+pub new_one : (s : List ℕ) (k : ℕ) {r : Bool} → r ≡ is_new s k → not r ≡ false → true ≡ is_new s k
+new_one s k {r} e t = sym (not-false r t) ∙ e
 
 -- the chains: of no step, with a part of the links, of one step more
 
@@ -151,14 +166,8 @@ module _ (s heads links : List ℕ) (k : ℕ) (room : 13 * k + 13 ≤ length s) 
           (get_or-set_same links k (get_or heads h 0) 0 (omega arith) ∙ C.head h l ∙ ap (λ (x : ℕ). last_where (new_of s x) k) is_h)
       go i m n (no z) = get_or-set_other links k i (get_or heads h 0) 0 z ∙ C.link i (omega arith) n
 
-pub chains_all : (s heads links : List ℕ) (k n : ℕ) → Chains s k heads links → k ≤ n → n ≤ k → Chains s n heads links
-chains_all s heads links k n C l m = subst (λ (i : ℕ). Chains s i heads links) (omega arith) C
-
--- the marks of new steps: one more, all
+-- the marks of new steps: one more
 
 pub marked_more : (f : ℕ → ℕ) (a : List ℕ) (k n v : ℕ) → FilledTo 0 8192 f k a → k < n → n ≤ 8192 → v ≡ f k
     → FilledTo 0 8192 f (k + 1) (set a k v)
 marked_more f a k n v F l m e = filled_more 0 8192 f k a v (omega arith) e F
-
-pub marked_all : (f : ℕ → ℕ) (a : List ℕ) (k n : ℕ) → FilledTo 0 8192 f k a → k ≤ n → n ≤ k → FilledTo 0 8192 f n a
-marked_all f a k n F l m = subst (λ (i : ℕ). FilledTo 0 8192 f i a) (omega arith) F

@@ -1,5 +1,5 @@
 -- Chains of steps, by which a step is found by its bytes: each chain has the steps of one hash.
-use Rattle.std.specs.Prelude.{ℕ, zero, suc, ◌+◌, ◌*◌, ◌%◌, ◌<◌, ◌≤◌, Bool, true, ◌&&◌, not, cond, List, ◌≡◌, eqb, length, get_or}
+use Rattle.std.specs.Prelude.{ℕ, zero, suc, ◌+◌, ◌*◌, ◌%◌, ◌<◌, ◌≤◌, Bool, true, ◌&&◌, not, cond, List, ◌≡◌, eqb, length, get_or, Option, Some, None}
 use Rattle.base.specs.Bits.{digit}
 use Rattle.base.specs.Bytes.{byte_at, same_bytes}
 use Rattle.gains.specs.Gain.{is_op, is_among}
@@ -9,6 +9,11 @@ use Rattle.gains.specs.File.{file_call, calls_to}
 unfoldable pub last_where : (ℕ → Bool) → ℕ → ℕ
 last_where f zero = 0
 last_where f (suc k) = cond (f k) (suc k) (last_where f k)
+
+-- the number that one more than a number stands for, and none for 0
+unfoldable pub below : ℕ → Option ℕ
+below zero = None
+below (suc i) = Some i
 
 -- the hash of a call, from its first n bytes, and from all: a number below the prime 4093
 unfoldable pub mix_to : List ℕ → ℕ → ℕ

@@ -4,30 +4,21 @@ ghost use Rattle.base.specs.Bytes.{same_bytes};
 ghost use Rattle.base.specs.Tab.{FilledTo};
 ghost use Rattle.gains.specs.Gain.{is_op, different_of};
 ghost use Rattle.gains.specs.File.{file_call, calls_to};
-ghost use Rattle.gains.specs.Chains.{last_where, mix_of, is_new, new_digit, new_like, Chains, Fresh};
+ghost use Rattle.gains.specs.Chains.{last_where, below, mix_of, is_new, new_digit, new_like, Chains, Fresh};
 
 use crate::sum;
-use base::{byte_at, part_of, same, wide};
+use base::{byte_at, part_of};
 
 // How many steps a block has.
 const BLOCK: usize = 8192;
-
-// The number of a step in its block, as it stands in a chain.
-fn place(x: u16) -> usize
-    ensures { result ≡ x }
-{
-    x as usize
-}
 
 // The hash of a call.
 fn mix_of(c: &[u8]) -> usize
     ensures { (result ≡ mix_of c.now) × (result < 4096) }
 {
     let mut h = 0;
-    let mut i = 0;
-    while i < 13 {
-        h = (h * 257 + wide(byte_at(c, i))) % 4093;
-        i += 1;
+    for i in 0..13 {
+        h = (h * 257 + byte_at(c, i) as usize) % 4093;
     }
     h
 }
@@ -37,25 +28,25 @@ fn same_step(s: &[u8], i: usize, t: &[u8], j: usize) -> bool
     requires { (13 * i ≤ length s.now) × (13 * j ≤ length t.now) }
     ensures { result ≡ same_bytes (file_call t.now j) (file_call s.now i) }
 {
-    same(part_of(t, 13 * j, 13), part_of(s, 13 * i, 13))
+    part_of(t, 13 * j, 13) == part_of(s, 13 * i, 13)
 }
 
-// One more than the number of the new step of s that has the bytes of step j of t, and 0 where there is none.
-fn find(s: &[u8], heads: &[u16], links: &[u16], t: &[u8], j: usize) -> usize
+// The new step of s that has the bytes of step j of t. A chain has one more than a step's number, and 0 at its end.
+fn find(s: &[u8], heads: &[u16], links: &[u16], t: &[u8], j: usize) -> Option<usize>
     requires { (13 * j ≤ length t.now) × Chains s.now (length links.now) heads.now links.now }
-    ensures { result ≡ last_where (new_like s.now (file_call t.now j))
-        (length links.now) }
+    ensures { result ≡ below (last_where (new_like s.now (file_call t.now j))
+        (length links.now)) }
 {
     let h = mix_of(part_of(t, 13 * j, 13));
-    let mut at = place(heads[h]);
+    let mut at = heads[h] as usize;
     while 0 < at {
         let i = at - 1;
         if same_step(s, i, t, j) {
-            return at;
+            return Some(i);
         }
-        at = place(links[i]);
+        at = links[i] as usize;
     }
-    0
+    None
 }
 
 // Whether step k is a 16 that does not stand before; the chains have the steps before it.
@@ -66,23 +57,23 @@ fn is_new(s: &[u8], k: usize, heads: &[u16], links: &[u16]) -> bool
     if byte_at(s, 13 * k) != 16 {
         return false;
     }
-    find(s, heads, &links[..k], s, k) == 0
+    find(s, heads, &links[..k], s, k).is_none()
 }
 
-// Puts step k into its chain if it is new, and says so by 1.
-fn join(s: &[u8], k: usize, heads: &mut [u16], links: &mut [u16]) -> u8
+// Puts step k into its chain if it is new, and says whether it is.
+fn join(s: &[u8], k: usize, heads: &mut [u16], links: &mut [u16]) -> bool
     requires { (13 * k + 13 ≤ length s.now) × (k < 8192) × (length links.old ≡ 8192)
         × Chains s.now k heads.old links.old }
-    ensures { (result ≡ new_digit s.now k) × (length links.new ≡ 8192)
+    ensures { (result ≡ is_new s.now k) × (length links.new ≡ 8192)
         × Chains s.now (k + 1) heads.new links.new }
 {
     if !is_new(s, k, heads, links) {
-        return 0;
+        return false;
     }
     let h = mix_of(part_of(s, 13 * k, 13));
     links[k] = heads[h];
     heads[h] = (k + 1) as u16;
-    1
+    true
 }
 
 // Puts the first n steps into their chains; `fresh` has 1 for each that is new.
@@ -92,10 +83,8 @@ fn join_steps(s: &[u8], n: usize, heads: &mut [u16], links: &mut [u16], fresh: &
     ensures { (Chains s.now n heads.new links.new)
         × (FilledTo 0 8192 (new_digit s.now) n fresh.new) }
 {
-    let mut k = 0;
-    while k < n {
-        fresh[k] = join(s, k, heads, links);
-        k += 1;
+    for k in 0..n {
+        fresh[k] = join(s, k, heads, links) as u8;
     }
 }
 
@@ -109,11 +98,9 @@ fn strike(s: &[u8], j: usize, block: &[u8], heads: &[u16], links: &[u16], fresh:
     if byte_at(s, 13 * j) != 16 {
         return;
     }
-    let at = find(block, heads, links, s, j);
-    if at == 0 {
-        return;
+    if let Some(i) = find(block, heads, links, s, j) {
+        fresh[i] = 0;
     }
-    fresh[at - 1] = 0;
 }
 
 // Strikes the first b steps of s from what is fresh in the block.
@@ -123,10 +110,8 @@ fn strike_steps(s: &[u8], b: usize, block: &[u8], heads: &[u16], links: &[u16], 
     ensures { Fresh s.now b block.now (length links.now)
         fresh.new }
 {
-    let mut j = 0;
-    while j < b {
+    for j in 0..b {
         strike(s, j, block, heads, links, fresh);
-        j += 1;
     }
 }
 
@@ -135,10 +120,7 @@ fn block_size(b: usize, n: usize) -> usize
     requires { b < n }
     ensures { (0 < result) × (result ≤ 8192) × (b + result ≤ n) }
 {
-    if n - b < BLOCK {
-        return n - b;
-    }
-    BLOCK
+    BLOCK.min(n - b)
 }
 
 // The steps 16 of the block at b that stand neither before it nor before themselves in it.

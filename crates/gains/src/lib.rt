@@ -3,14 +3,13 @@
 #![tactic(auto)]
 
 ghost use Rattle.std.specs.Prelude.{◌≡◌, ◌+◌, ◌*◌, ◌/◌, ◌<◌, ◌≤◌, length};
-ghost use Rattle.base.specs.Bits.{digit};
 ghost use Rattle.base.specs.Bytes.{byte_at};
 ghost use Rattle.base.specs.Sums.{sum};
 ghost use Rattle.gains.specs.Gain.{count_of, adds, gain};
 ghost use Rattle.gains.specs.File.{file_call, calls_to, file_calls, Turns};
 
 use crate::different::count_backings;
-use base::{byte_at, wide};
+use base::byte_at;
 
 mod different; // the steps 16, each counted once
 
@@ -21,22 +20,12 @@ fn step_count(s: &[u8]) -> usize
     s.len() / 13
 }
 
-// 1 where step k is a hash, a publish or a false hash.
-fn one_added(s: &[u8], k: usize) -> usize
+// Whether step k is a hash, a publish or a false hash.
+fn adds(s: &[u8], k: usize) -> bool
     requires { 13 * k + 13 ≤ length s.now }
-    ensures { (result ≡ digit (adds (file_call s.now k))) × (result ≤ 1) }
+    ensures { result ≡ adds (file_call s.now k) }
 {
-    let op = byte_at(s, 13 * k);
-    if op == 9 {
-        return 1;
-    }
-    if op == 12 {
-        return 1;
-    }
-    if op == 15 {
-        return 1;
-    }
-    0
+    matches!(byte_at(s, 13 * k), 9 | 12 | 15)
 }
 
 // The steps 9, 12 and 15 among the first n.
@@ -45,10 +34,8 @@ fn count_added(s: &[u8], n: usize) -> usize
     ensures { (result ≡ count_of adds (calls_to s.now n)) × (result ≤ n) }
 {
     let mut r = 0;
-    let mut k = 0;
-    while k < n {
-        r += one_added(s, k);
-        k += 1;
+    for k in 0..n {
+        r += adds(s, k) as usize;
     }
     r
 }
@@ -58,15 +45,10 @@ fn count_turn(s: &[u8], k: usize, turns: &mut [u8])
     requires { (13 * k + 13 ≤ length s.now) × Turns s.now k turns.old }
     ensures { Turns s.now (k + 1) turns.new }
 {
-    if byte_at(s, 13 * k) != 11 {
-        return;
+    if byte_at(s, 13 * k) == 11 {
+        let j = byte_at(s, 13 * k + 1) as usize;
+        turns[j] = (turns[j] + 1).min(8);
     }
-    let j = wide(byte_at(s, 13 * k + 1));
-    let had = turns[j];
-    if 8 <= had {
-        return;
-    }
-    turns[j] = had + 1;
 }
 
 // Counts the backs among the first n steps.
@@ -74,10 +56,8 @@ fn count_turns(s: &[u8], n: usize, turns: &mut [u8])
     requires { (13 * n ≤ length s.now) × Turns s.now 0 turns.old }
     ensures { Turns s.now n turns.new }
 {
-    let mut k = 0;
-    while k < n {
+    for k in 0..n {
         count_turn(s, k, turns);
-        k += 1;
     }
 }
 
@@ -87,10 +67,8 @@ pub(crate) fn sum(numbers: &[u8], n: usize) -> usize
     ensures { (result ≡ sum n (byte_at numbers.now)) × (result ≤ 255 * n) }
 {
     let mut r = 0;
-    let mut k = 0;
-    while k < n {
-        r += wide(numbers[k]);
-        k += 1;
+    for k in 0..n {
+        r += numbers[k] as usize;
     }
     r
 }

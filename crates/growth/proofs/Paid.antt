@@ -17,8 +17,8 @@ use Rattle.rules.specs.declared.Entry.{Entry}
 use Rattle.rules.specs.declared.Entry.TheVariants.{Backing}
 use Rattle.rules.specs.declared.Step.{Step}
 use Rattle.rules.specs.declared.Step.TheVariants.{SendHash, Back, Publish, FalseHash, FalseBacking, ClearHashes}
-use Rattle.rules.specs.declared.Call.{Call}
-use Rattle.rules.specs.declared.Call.TheVariants.{Formed, Malformed}
+use Rattle.rules.specs.Form.{Call}
+use Rattle.std.specs.Prelude.{Some, None}
 use Rattle.rules.specs.Table.{Table}
 use Rattle.rules.specs.Bag.{is_in, enter, is_full, capacity, without_hashes}
 use Rattle.rules.specs.State.{State}
@@ -65,24 +65,24 @@ module _ (T : Table) (Z : Sized T) (s : State) (G : Valid T s) (c : List ℕ) (c
   )
 
   -- hash, publish, false hash
-  adds_9 : (j p : ℕ) → read c ≡ Formed (SendHash j p) → adds c ≡ true
+  adds_9 : (j p : ℕ) → read c ≡ Some (SendHash j p) → adds c ≡ true
   unfolding adds
   adds_9 j p w = or_l (is_op 9 c) _ (op_said c (SendHash j p) w)
 
-  adds_12 : (e : ℕ) → read c ≡ Formed (Publish e) → adds c ≡ true
+  adds_12 : (e : ℕ) → read c ≡ Some (Publish e) → adds c ≡ true
   unfolding adds
   adds_12 e w = or_r (is_op 9 c) _ (or_l (is_op 12 c) _ (op_said c (Publish e) w))
 
-  adds_15 : (j p B : ℕ) → read c ≡ Formed (FalseHash j p B) → adds c ≡ true
+  adds_15 : (j p B : ℕ) → read c ≡ Some (FalseHash j p B) → adds c ≡ true
   unfolding adds
   adds_15 j p B w = or_r (is_op 9 c) _ (or_r (is_op 12 c) _ (op_said c (FalseHash j p B) w))
 
   -- false backing
-  there_is : (bag : List Entry) (j p B : ℕ) → read c ≡ Formed (FalseBacking j p B) → there bag c ≡ is_in (Backing j p B) bag
+  there_is : (bag : List Entry) (j p B : ℕ) → read c ≡ Some (FalseBacking j p B) → there bag c ≡ is_in (Backing j p B) bag
   unfolding there
   there_is bag j p B w = let st = FalseBacking j p B in rw (peer_said c st w, period_said c st w, board_said c st w)
 
-  falls : (j p B : ℕ) → read c ≡ Formed (FalseBacking j p B) → is_in (Backing j p B) s.bag ≡ false
+  falls : (j p B : ℕ) → read c ≡ Some (FalseBacking j p B) → is_in (Backing j p B) s.bag ≡ false
       → left (enter (Backing j p B) s.bag) s.to_back calls + 1 ≤ left s.bag s.to_back (c ∷ calls)
   unfolding opens
   falls j p B w m =
@@ -92,7 +92,7 @@ module _ (T : Table) (Z : Sized T) (s : State) (G : Valid T s) (c : List ℕ) (c
       (is_false _ (λ e. split (there_is (enter a s.bag) j p B w ∙ in_enter a a s.bag ∙ or_l _ _ (same_self a))
       (not-true _ (and_r (is_op 16 c) _ e))))
 
-  paid_false : (j p B : ℕ) → read c ≡ Formed (FalseBacking j p B)
+  paid_false : (j p B : ℕ) → read c ≡ Some (FalseBacking j p B)
       → length (enter (Backing j p B) s.bag) + left (enter (Backing j p B) s.bag) s.to_back calls ≤ length s.bag + left s.bag
       s.to_back (c ∷ calls)
   paid_false j p B w = go (either (is_in (Backing j p B) s.bag))
@@ -104,11 +104,11 @@ module _ (T : Table) (Z : Sized T) (s : State) (G : Valid T s) (c : List ℕ) (c
       go (inr m) = omega (arith, length-enter (Backing j p B) s.bag, falls j p B w m)
 
   -- back
-  back_of_lem : (j : ℕ) → read c ≡ Formed (Back j) → back_of j c ≡ true
+  back_of_lem : (j : ℕ) → read c ≡ Some (Back j) → back_of j c ≡ true
   unfolding back_of
   back_of_lem j w = and_i _ _ (op_said c (Back j) w) (eq-eqb (byte_at c 1) j (peer_said c (Back j) w))
 
-  backs : (a : Entry) (j : ℕ) → read c ≡ Formed (Back j) → j ≤ T.n → s.to_back j < s.current j
+  backs : (a : Entry) (j : ℕ) → read c ≡ Some (Back j) → j ≤ T.n → s.to_back j < s.current j
       → left (enter a s.bag) (set_at j (s.to_back j + 1) s.to_back) calls + 1 ≤ left s.bag s.to_back (c ∷ calls)
   backs a j w l m = left_backs s.bag s.to_back c calls (enter a s.bag) (stays a) j (omega (arith, Z.peers))
       (omega (arith, G.counters.opens j, Z.periods)) (back_of_lem j w)
@@ -128,7 +128,7 @@ module _ (T : Table) (Z : Sized T) (s : State) (G : Valid T s) (c : List ℕ) (c
   -- one step that is not refused
 
   abbrev PaidBy : Step → Type 0
-  PaidBy st = read c ≡ Formed st → Clear T s st → Paid (rule T s st).effect
+  PaidBy st = read c ≡ Some st → Clear T s st → Paid (rule T s st).effect
 
   paid_hash : (j p : ℕ) → PaidBy (SendHash j p)
   unfolding rule
@@ -207,7 +207,7 @@ module _ (T : Table) (Z : Sized T) (s : State) (G : Valid T s) (c : List ℕ) (c
   Over = capacity < length s.bag + left s.bag s.to_back (c ∷ calls)
 
   abbrev OverBy : Step → Type 0
-  OverBy st = read c ≡ Formed st → answer T s st ≡ 13 → Over
+  OverBy st = read c ≡ Some st → answer T s st ≡ 13 → Over
 
   over_none : (st : Step) → no_full (numbered (rule T s st).refusals) ≡ true → OverBy st
   over_none st n w e = none_full T s st n e
@@ -247,5 +247,5 @@ module _ (T : Table) (Z : Sized T) (s : State) (G : Valid T s) (c : List ℕ) (c
   over-call e = go (read c) refl e
     where
       go : (x : Call) → read c ≡ x → reply T s x ≡ 13 → Over
-      go Malformed w e = absurd (omega (arith, e))
-      go (Formed st) w e = over_step st w e
+      go None w e = absurd (omega (arith, e))
+      go (Some st) w e = over_step st w e

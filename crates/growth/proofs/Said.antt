@@ -7,13 +7,14 @@ use lib.Dec.{eqb}
 use Rattle.base.specs.Bytes.{byte_at, number_at}
 use Rattle.base.proofs.Truth.{eqb_self}
 use Rattle.rules.specs.declared.Step.{Step}
-use Rattle.rules.specs.declared.Call.TheVariants.{Formed}
+use Rattle.std.specs.Prelude.{Some}
 use Rattle.rules.specs.Form.{read}
-use Rattle.rules.specs.Fields.{Fields, fields}
+use Rattle.rules.specs.declared.Fields.{Fields}
+use Rattle.rules.specs.Fields.{fields}
 use Rattle.form.proofs.Written.{holds}
 use Rattle.gains.specs.Gain.{is_op}
 
-module _ (c : List ℕ) (st : Step) (said : read c ≡ Formed st) where
+module _ (c : List ℕ) (st : Step) (said : read c ≡ Some st) where
   pub op_of_lem : (op : ℕ) → is_op op c ≡ eqb (fields st).op op
   unfolding is_op
   op_of_lem op = let h = holds c st said in rw h.0 (ap (λ (f : Fields). eqb f.op op) (sym h.1))

@@ -5,6 +5,7 @@ use mathlib.Core.Bool.{true}
 use mathlib.Core.List.{List, [], ◌∷◌}
 use mathlib.Core.Path.{◌≡◌, refl, sym, ap, ap₂, ◌∙◌}
 use lib.ListN.{length}
+use Rattle.std.specs.Prelude.{Ok, Err}
 use Rattle.base.specs.Bits.{bit}
 use Rattle.base.specs.Bytes.{number_at, part}
 use Rattle.header.specs.Header.{header_size, field_of, head_of, periods_of}
@@ -22,7 +23,6 @@ use Rattle.sheets.specs.Made.{pairs_from, joined, sheet_of}
 use Rattle.sheets.specs.Cases.{sheet_r}
 use Rattle.printing.specs.Board.{boards_on, first_board, board_texts}
 use Rattle.printing.specs.Written.{sheet_for, write_answer, written}
-use Rattle.printing.specs.declared.Written.TheVariants.{Sheet, Refused}
 use Rattle.printing.proofs.Answering.{room_given, none_given}
 use Rattle.hall.specs.Hung.{period_answer, asked_answer, hang_answer, hung}
 use Rattle.hall.proofs.Hanging.{of_rehearsal, period_next, name_first, none_applies}
@@ -74,11 +74,11 @@ fits = none_given tables.case_r last 0 11 input.case_r_taken_lem ready in_range_
 too_short : 16 ≡ write_answer tables.case_r last 0 10
 too_short = room_given tables.case_r last 0 10 input.case_r_taken_lem ready in_range_lem has (omega (arith, ap length made))
 
-writes : written tables.case_r last 0 11 ≡ Sheet 11
+writes : written tables.case_r last 0 11 ≡ Ok 11
 unfolding written
-writes = rw (← fits) (ap (λ (t : List ℕ). Sheet (length t)) made)
+writes = rw (← fits) (ap (λ (t : List ℕ). Ok (length t)) made)
 
-short : written tables.case_r last 0 10 ≡ Refused 16
+short : written tables.case_r last 0 10 ≡ Err 16
 unfolding written
 short = rw (← too_short)
 

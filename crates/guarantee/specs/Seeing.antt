@@ -1,6 +1,6 @@
 -- What `fresh`, `write_sheet`, `rehearse` and `hang` answer and leave, by what an engine sees of a table: an engine
 -- that reads tables as an older one did, and this one on tables that are not newer than it.
-use Rattle.std.specs.Prelude.{ℕ, zero, suc, ◌+◌, ◌-◌, ◌*◌, ◌/◌, Bool, cond, not, ◌&&◌, List, [], ◌∷◌, ◌++◌, ◌≡◌, eqb, leb, ltb, length}
+use Rattle.std.specs.Prelude.{Result, Ok, Err, ℕ, zero, suc, ◌+◌, ◌-◌, ◌*◌, ◌/◌, Bool, cond, not, ◌&&◌, List, [], ◌∷◌, ◌++◌, ◌≡◌, eqb, leb, ltb, length}
 use Rattle.base.specs.Bits.{bit}
 use Rattle.base.specs.Bytes.{part}
 use Rattle.base.specs.Refusals.{header, pairs, state, name, unknown, sheet, number_of, numbered, first}
@@ -21,8 +21,6 @@ use Rattle.engine.specs.Engine.{fresh_state, fresh_answer, fresh_bytes}
 use Rattle.rehearsal.specs.Input.{input_most, step_size}
 use Rattle.rehearsal.specs.Rehearsal.{reported, state_left}
 use Rattle.sheets.specs.Made.{sheet_of}
-use Rattle.printing.specs.declared.Written.{Written}
-use Rattle.printing.specs.declared.Written.TheVariants.{Sheet, Refused}
 use Rattle.printing.specs.Board.{boards_on, first_board}
 use Rattle.printing.specs.Written.{written, sheet_left}
 use Rattle.hall.specs.Hung.{period_asked, rehearsal_in, hung}
@@ -68,8 +66,8 @@ module _ (refused : ℕ) (h : Head) (text : ℕ → List ℕ) (s : List ℕ) (pe
       ∷ [])))
       refused
 
-  abbrev pub written_seeing : ℕ → Written
-  written_seeing room = cond (eqb (write_seeing room) 0) (Sheet (length sheet_seeing)) (Refused (write_seeing room))
+  abbrev pub written_seeing : ℕ → Result ℕ ℕ
+  written_seeing room = cond (eqb (write_seeing room) 0) (Ok (length sheet_seeing)) (Err (write_seeing room))
 
   abbrev pub sheet_left_seeing : List ℕ → List ℕ
   sheet_left_seeing buffer = cond (eqb (write_seeing (length buffer)) 0) (over buffer 0 sheet_seeing) buffer
@@ -172,7 +170,7 @@ pub record OldCalls (old : Seen) (Newer : List ℕ → Type 0) : Type 0 where
   -- a newer table is answered 1, header, and a newer input is refused with it, unless it is too long
   pub fresh_refuses : (table s : List ℕ) → Newer table → fresh_seeing (old.refusal table) s ≡ 1
   pub writes_refuses : (table s : List ℕ) (period room : ℕ) → Newer table
-      → written_seeing (old.refusal table) (old.head_of table) (old.item_text table) s period room ≡ Refused 1
+      → written_seeing (old.refusal table) (old.head_of table) (old.item_text table) s period room ≡ Err 1
   pub rehearse_refuses : (input s : List ℕ) → Newer input
       → reported_seen (looks_by old input) input s ≡ refused_line (cond (ltb input_most (length input)) 15 1)
   pub hang_refuses : (input : List ℕ) → Newer (rehearsal_in input)

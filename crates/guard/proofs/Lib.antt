@@ -1,4 +1,3 @@
 pub mod Few
 pub mod Rows
 pub mod Sharer
-pub mod Waiting

@@ -5,31 +5,16 @@ ghost use Rattle.state.specs.declared.Fact.TheVariants.{Shared};
 ghost use Rattle.state.specs.Contents.{Canon, has_on, current_on};
 ghost use Rattle.view.specs.View.{state_on};
 
+use base::is_member;
 use sets::whole::sharers_of;
 use state::numbers::current_of;
-
-// Whether peer j gave its receipt share on item x in period q.
-fn gave_in(s: &[u8], j: u8, q: u8, x: u8) -> bool
-    requires { Canon s.now }
-    ensures { result ≡ has_on s.now (Shared j q x) }
-{
-    let sharers = sharers_of(s, q, x);
-    base::is_member(sharers.0, j)
-}
 
 // Whether peer j gave its receipt share on item x in a period before p.
 fn given_before(s: &[u8], j: u8, p: u8, x: u8) -> bool
     requires { Canon s.now }
     ensures { result ≡ given_before ((state_on s.now).shared j) p x }
 {
-    let mut q: u8 = 0;
-    while q < p {
-        if gave_in(s, j, q, x) {
-            return true;
-        }
-        q += 1;
-    }
-    false
+    (0..p).any(|q| is_member(sharers_of(s, q, x).0, j))
 }
 
 // Peer j gave its receipt share on item x in a period before its open one.

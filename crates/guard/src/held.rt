@@ -17,27 +17,12 @@ pub fn sets_meet(a: u64, b: u64) -> bool
     a & b != 0
 }
 
-// Whether peer j holds, in period q, an item of the row.
-fn holds_of(s: &[u8], row: u64, j: u8, q: u8) -> bool
-    requires { Canon s.now }
-    ensures { result ≡ holds_of (contents s.now) row j q }
-{
-    sets_meet(held_in(s, j, q), row)
-}
-
 // Whether peer j holds, in one of the periods, an item of the row.
 fn ever_holds(s: &[u8], row: u64, j: u8, periods: u8) -> bool
     requires { Canon s.now }
     ensures { result ≡ any periods (holds_of (contents s.now) row j) }
 {
-    let mut q: u8 = 0;
-    while q < periods {
-        if holds_of(s, row, j, q) {
-            return true;
-        }
-        q += 1;
-    }
-    false
+    (0..periods).any(|q| sets_meet(held_in(s, j, q), row))
 }
 
 // Peer j holds, in any period, an item of the row: one that clashes with x, where the row has all that do.

@@ -6,7 +6,7 @@ ghost use Rattle.view.specs.View.{quorum_of};
 ghost use Rattle.view.specs.Ready.{Ready};
 
 use header::Head;
-use header::quorum::{sharers_reach, signers_reach};
+use header::quorum::reaches;
 use sets::whole::{sharers_of, signers_of};
 use state::numbers::current_of;
 
@@ -15,7 +15,7 @@ pub fn few_signers(s: &[u8], h: Head, j: u8, x: u8) -> bool
     requires { Ready h s.now }
     ensures { result ≡ not (quorum_of h (λ k. has_on s.now (Known j (current_on s.now j) x k))) }
 {
-    !signers_reach(h, signers_of(s, j, current_of(s, j), x))
+    !reaches(h, signers_of(s, j, current_of(s, j), x))
 }
 
 // Fewer than t receipt shares on item x in period p are outside.
@@ -23,5 +23,5 @@ pub fn few_sharers(s: &[u8], h: Head, p: u8, x: u8) -> bool
     requires { Ready h s.now }
     ensures { result ≡ not (quorum_of h (λ k. has_on s.now (Shared k p x))) }
 {
-    !sharers_reach(h, sharers_of(s, p, x))
+    !reaches(h, sharers_of(s, p, x))
 }

@@ -1,5 +1,5 @@
 -- The output by the first refusal that applies: of the input, then of the period; else the sheet.
-use Prim.Native.Nat.{ℕ, ◌^◌, ◌≤◌, ◌<◌}
+use Prim.Native.Nat.{ℕ, ◌≤◌, ◌<◌}
 use native.Mathlib.Decide.{ℕ_discrete}
 use native.Mathlib.Omega.{arith}
 use mathlib.Core.Bool.{true, false, not, cond}
@@ -9,7 +9,8 @@ use mathlib.Core.Path.{◌≡◌, refl, sym, ap, subst, subst₂, ◌∙◌}
 use lib.Dec.{eqb}
 use lib.ListN.{length, drop, length-drop}
 use lib.Seq.{take_all}
-use borrow.Author.Tests.{le-leb, lt-leb, lt-ltb, le-ltb, ne_eqb, eqb-true, leb-false, not-false}
+use borrow.Author.Tests.{le-leb, lt-leb, le-ltb, ne_eqb, eqb-true, leb-false, not-false}
+use Rattle.std.specs.Prelude.{Option, Some, None}
 use Rattle.base.specs.Bytes.{part}
 use Rattle.base.proofs.Truth.{either}
 use Rattle.base.proofs.Refusals.{stop, pass, none_left, passed, none_holds, first_passed, first_given, first_small}
@@ -18,14 +19,13 @@ use Rattle.header.specs.declared.Head.{Head}
 use Rattle.ballot.specs.Table.{refusal}
 use Rattle.rules.specs.Ideal.{has_board}
 use Rattle.view.specs.Ready.{Ready}
-use Rattle.text.specs.Wrote.{over, Wrote}
-use Rattle.text.proofs.Writing.{renamed}
+use Rattle.text.specs.declared.Printer.{Printer}
+use Rattle.text.specs.Wrote.{Put}
+use Rattle.text.proofs.Puts.{renamed}
 use Rattle.report.specs.Lines.{refused_line}
 use Rattle.report.proofs.Sizes.{refused_most}
 use Rattle.sheets.specs.Sheet.{sheet_most}
 use Rattle.sheets.specs.Made.{sheet_of}
-use Rattle.printing.specs.declared.board.Published.{Published}
-use Rattle.printing.specs.declared.board.Published.TheVariants.{Items, Nothing}
 use Rattle.printing.specs.Board.{boards_on, published, board_texts}
 use Rattle.printing.specs.Written.{sheet_for, Judged}
 use Rattle.printing.proofs.Finding.{board_there, board_absent}
@@ -47,10 +47,7 @@ rest_of input = take_all (length input) (drop 1 input) (omega (arith, length-dro
 -- the refusals of the input
 
 module _ (input : List ℕ) where
-  pub too_long : input_most < length input → 15 ≡ asked_answer input
-  unfolding asked_answer
-  too_long l = stop 15 _ (sym (lt-ltb _ _ l)) refl
-
+  -- the rehearsal's own, where the input is not too long
   pub of_rehearsal : {r : ℕ} → length input ≤ input_most → r ≡ input_refusal (rehearsal_in input) → r ≡ asked_answer input
   unfolding asked_answer input_refusal
   of_rehearsal l is = pass 15 _ _ (sym (le-ltb _ _ l)) refl is
@@ -61,8 +58,8 @@ module _ (input : List ℕ) where
   unfolding asked_answer input_refusal
   rehearsal_taken zero = taken (rehearsal_in input) (none_holds (input_refusals (rehearsal_in input)) (passed (asked_refusals input) zero).1)
 
-  pub taken_of : {r : ℕ} {rest : List ℕ} → r ≡ asked_answer input → r ≡ 0 → rest ≡ rehearsal_in input → Taken rest
-  taken_of judged good cut = subst (λ l. Taken l) (sym cut) (rehearsal_taken (sym judged ∙ good))
+  pub taken_of : {rest : List ℕ} → 0 ≡ asked_answer input → rest ≡ rehearsal_in input → Taken rest
+  taken_of good cut = subst (λ l. Taken l) (sym cut) (rehearsal_taken (sym good))
 
 -- the refusals of the period
 
@@ -83,23 +80,23 @@ module _ (table s : List ℕ) (p : ℕ) where
 -- a table that is taken and a state that is ready: the line of the first that applies, or the sheet
 
 module _ (table s : List ℕ) (p : ℕ) {h : Head} (J : Judged table s h) where
-  line_shown : {out is : List ℕ} {to n : ℕ} → n ≡ period_answer table s p → (n ≡ 0 → ⊥) → Wrote out 0 (refused_line n) is to
-      → Wrote out 0 (shown table s p) is to
+  line_shown : {out is : Printer} {n : ℕ} → n ≡ period_answer table s p → (n ≡ 0 → ⊥) → Put out (refused_line n) is
+      → Put out (shown table s p) is
   unfolding shown
   line_shown {n = n} answer bad w = renamed (rw (← answer, ne_eqb n 0 bad)) w
 
-  pub no_period_lem : {out is : List ℕ} {to : ℕ} → h.periods ≤ p → Wrote out 0 (refused_line 6) is to → Wrote out 0 (shown table s p) is to
+  pub no_period_lem : {out is : Printer} → h.periods ≤ p → Put out (refused_line 6) is → Put out (shown table s p) is
   no_period_lem l w = line_shown (name_first table s p (omega (arith, l, periods-read J))) (λ e. omega arith) w
 
-  module _ (named : p < h.periods) {f : Published} (looked : f ≡ published (boards_on s) p) where
+  module _ (named : p < h.periods) {f : Option ℕ} (looked : f ≡ published (boards_on s) p) where
     in_range_lem : p < periods_of table
     in_range_lem = omega (arith, named, periods-read J)
 
-    pub no_board_lem : {out is : List ℕ} {to : ℕ} → f ≡ Nothing → Wrote out 0 (refused_line 10) is to → Wrote out 0 (shown table s p) is to
+    pub no_board_lem : {out is : Printer} → f ≡ None → Put out (refused_line 10) is → Put out (shown table s p) is
     no_board_lem none w = line_shown (unknown_next table s p in_range_lem (board_absent (boards_on s) p looked none)) (λ e. omega arith) w
 
-    pub sheet_shown : {out is : List ℕ} {to B : ℕ} → f ≡ Items B → Wrote out 0 (sheet_of p (board_texts table B h.items)) is to
-        → Wrote out 0 (shown table s p) is to
+    pub sheet_shown : {out is : Printer} {B : ℕ} → f ≡ Some B → Put out (sheet_of p (board_texts table B h.items)) is
+        → Put out (shown table s p) is
     unfolding shown
     sheet_shown found w =
         let there = board_there (boards_on s) p looked found in
@@ -116,8 +113,8 @@ module _ (input : List ℕ) {table s : List ℕ} where
     ready = subst₂ (λ g u. Ready g u) (sym (head ∙ ap head_of cut)) (sym now) (state_ready input T (step_count input));
   }
 
-  pub shown_then : (p : ℕ) {out is : List ℕ} {to : ℕ} → table ≡ table_in input → s ≡ last_state input → Wrote out 0 (shown table s p) is to
-      → Wrote out 0 (shown (table_in input) (last_state input) p) is to
+  pub shown_then : (p : ℕ) {out is : Printer} → table ≡ table_in input → s ≡ last_state input → Put out (shown table s p) is
+      → Put out (shown (table_in input) (last_state input) p) is
   shown_then p cut now w = renamed (rw (cut, now)) w
 
 -- the whole output
@@ -192,19 +189,17 @@ module _ (input : List ℕ) where
       go (inl zero) (no bad) = absurd (bad (sym (asked_first bad) ∙ eqb-true _ 0 zero))
       go (inr other) asked = rw other (omega (arith, refused_most (hang_answer input) small))
 
-  -- what `hang` promises
-  abbrev pub Promised : List ℕ → List ℕ → ℕ → Type 0
-  Promised out is r = (r ≡ length (hung input)) × ((r ≤ sheet_most) × (is ≡ over out 0 (hung input)))
+  -- what is written: the line of the refusal, or what is shown after the steps
 
-  module _ {out is : List ℕ} {to : ℕ} (room : length out < 2 ^ 64) where
-    written : {text : List ℕ} → text ≡ hung input → Wrote out 0 text is to → Promised out is to
-    written e w =
-        let all = renamed e w in
-        (omega (arith, all.place, hung_most), (omega (arith, all.place, hung_most), all.bytes room))
+  pub refused : {out is : Printer} {r : ℕ} → r ≡ asked_answer input → (r ≡ 0 → ⊥) → Put out (refused_line r) is → Put out (hung input) is
+  refused judged bad w = renamed (ap refused_line judged ∙ line_hung (λ e. bad (judged ∙ e))) w
 
-    pub refused : {r : ℕ} → r ≡ asked_answer input → (r ≡ 0 → ⊥) → Wrote out 0 (refused_line r) is to → Promised out is to
-    refused {r} judged bad w = written (ap refused_line judged ∙ line_hung (λ e. bad (judged ∙ e))) w
+  pub hangs : {out is : Printer} {q : ℕ} {rest : List ℕ} → 0 ≡ asked_answer input → rest ≡ rehearsal_in input → q ≡ p
+      → Put out (shown (table_in rest) (last_state rest) q) is → Put out (hung input) is
+  hangs good cut asked w = renamed (rw (cut, asked) (shown-hung (sym good))) w
 
-    pub hangs : {r q : ℕ} {rest : List ℕ} → r ≡ asked_answer input → r ≡ 0 → rest ≡ rehearsal_in input → q ≡ p
-        → Wrote out 0 (shown (table_in rest) (last_state rest) q) is to → Promised out is to
-    hangs judged good cut asked w = written (rw (cut, asked) (shown-hung (sym judged ∙ good))) w
+  -- its length, where it was written at the start of a buffer
+  pub long : {q r : Printer} → q.at ≡ 0 → Put q (hung input) r → (r.at ≡ length (hung input)) × (r.at ≤ sheet_most)
+  long {q} {r} from w =
+      let place = w.wrote.place in
+      (omega (arith, place, from, hung_most), omega (arith, place, from, hung_most))

@@ -1,13 +1,13 @@
 -- Laws of the season: what a table's first two bytes say, where its fields stand then, and how long its header is.
-use Prim.Native.Nat.{ℕ, ◌+◌, ◌≤◌, ◌<◌}
+use Prim.Native.Nat.{ℕ, ◌+◌, ◌≤◌}
 use native.Mathlib.Omega.{arith}
-use mathlib.Core.Bool.{Bool, true, false, not, cond}
+use mathlib.Core.Bool.{true, false, cond}
 use mathlib.Core.List.{List, [], ◌∷◌}
 use mathlib.Core.Logic.{◌⊎◌, inl, inr}
 use mathlib.Core.Path.{◌≡◌, refl, sym, ap, ◌∙◌}
 use lib.Dec.{eqb}
 use lib.Seq.{get_or-append-add}
-use borrow.Author.Tests.{eq-eqb, eqb-true, not-true, not-false}
+use borrow.Author.Tests.{eq-eqb, eqb-true}
 use Rattle.base.specs.Bytes.{byte_at}
 use Rattle.base.proofs.Truth.{either, is_false, and_i, and_l, and_r}
 use Rattle.header.specs.declared.season.Season.{Season}
@@ -87,31 +87,8 @@ module _ (s : List ℕ) where
   pub no_weights : has_weights (season_of s) ≡ false → weight_count s ≡ 0
   no_weights none = rw none
 
-  module _ (some : has_weights (season_of s) ≡ true) where
-    few_peers : peers_of s < 16 → weight_count s ≡ peers_of s
-    few_peers l = rw some (omega (arith, l))
-
-    many_peers : 16 ≤ peers_of s → weight_count s ≡ 16
-    many_peers l = rw some (omega (arith, l))
-
-    pub for_each_peer : peers_of s ≤ 16 → weight_count s ≡ peers_of s
-    for_each_peer most = rw some (omega (arith, most))
-
-  -- for the function that counts them: none, few, and as many as there can be
-
-  module _ {x : Season} {some : Bool} (x-is : x ≡ season_of s) (some_is : some ≡ has_weights x) where
-    has_some : some ≡ has_weights (season_of s)
-    has_some = some_is ∙ ap has_weights x-is
-
-    pub count_none : not some ≡ true → (0 ≡ weight_count s) × (0 ≤ 16)
-    count_none none = (sym (no_weights (sym has_some ∙ not-true some none)), omega arith)
-
-    module _ (has : not some ≡ false) {n : ℕ} (n-is : n ≡ peers_of s) where
-      pub count_few : n < 16 → (n ≡ weight_count s) × (n ≤ 16)
-      count_few l = (n-is ∙ sym (few_peers (sym has_some ∙ not-false some has) (omega (arith, n-is, l))), omega arith)
-
-      pub count_many : 16 ≤ n → (16 ≡ weight_count s) × (16 ≤ 16)
-      count_many l = (sym (many_peers (sym has_some ∙ not-false some has) (omega (arith, n-is, l))), omega arith)
+  pub for_each_peer : has_weights (season_of s) ≡ true → peers_of s ≤ 16 → weight_count s ≡ peers_of s
+  for_each_peer some most = rw some (omega (arith, most))
 
 -- of a table of the first season, of the second and of the third
 

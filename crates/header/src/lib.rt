@@ -3,10 +3,10 @@
 // It uses the crate base and no other.
 #![tactic(auto)]
 
-ghost use Rattle.std.specs.Prelude.{◌≡◌, ◌≤◌};
+ghost use Rattle.std.specs.Prelude.{◌≡◌, ◌≤◌, true};
 ghost use Rattle.header.specs.Header.{header_size, field_of, peers_of, threshold_of, honest_of, periods_of, items_of};
 ghost use Rattle.header.specs.Header.{joined, head_of, is_honest, honest_count};
-ghost use Rattle.header.specs.Header.{least_threshold, none_above, threshold_ok, fields_ok, header_ok};
+ghost use Rattle.header.specs.Header.{total_weight, weights_ok, least_threshold, none_above, threshold_ok, header_ok};
 ghost use Rattle.base.specs.Bytes.{between};
 
 use crate::season::{fields_at, season_of};
@@ -128,12 +128,9 @@ pub fn is_honest(h: Head, k: u8) -> bool
 pub fn honest_count(h: Head) -> u8
     ensures { result ≡ honest_count h }
 {
-    let n = h.n;
     let mut count: u8 = 0;
-    let mut k: u8 = 0;
-    while k < n {
-        k += 1;
-        if is_honest(h, k) {
+    for k in 0..h.n {
+        if is_honest(h, k + 1) {
             count += 1;
         }
     }
@@ -159,57 +156,29 @@ fn none_above(n: u8, set: u16) -> bool
 fn is_between(low: u8, x: u8, high: u8) -> bool
     ensures { result ≡ between low x high }
 {
-    if x < low {
-        return false;
-    }
-    x <= high
+    low <= x && x <= high
 }
 
 // Whether t runs from the least threshold for the weight of all peers to that weight.
-fn threshold_ok(w: u8, t: u8) -> bool
-    ensures { result ≡ threshold_ok w t }
+fn threshold_ok(table: &[u8]) -> bool
+    requires { (peers_of table.now ≤ 16) × (weights_ok table.now ≡ true) }
+    ensures { result ≡ threshold_ok (total_weight table.now) (threshold_of table.now) }
 {
-    is_between(least(w), t, w)
+    let w = weights::total(table);
+    is_between(least(w), threshold(table), w)
 }
 
-// Whether the threshold is in range for the weight w of all peers, and every other field but n.
-fn fields_ok(n: u8, w: u8, t: u8, honest: u16, periods: u8, items: u8) -> bool
-    requires { n ≤ 16 }
-    ensures { result ≡ fields_ok n w t honest periods items }
-{
-    if !threshold_ok(w, t) {
-        return false;
-    }
-    if !none_above(n, honest) {
-        return false;
-    }
-    if !is_between(1, periods, 8) {
-        return false;
-    }
-    items <= 64
-}
-
+#[tactic(auto, unfolding(crate::specs::Header::header_ok, crate::specs::Header::fields_ok))]
 // Whether the header is whole, there are 1 to 16 peers, and all else is in range.
 pub fn header_ok(table: &[u8]) -> bool
     ensures { result ≡ header_ok table.now }
 {
-    if table.len() < header_size(table) as usize {
-        return false;
-    }
     let n = peers(table);
-    if !is_between(1, n, 16) {
-        return false;
-    }
-    if !weights::weights_ok(table) {
-        return false;
-    }
-    let w = weights::total(table);
-    fields_ok(
-        n,
-        w,
-        threshold(table),
-        honest(table),
-        periods(table),
-        items(table),
-    )
+    header_size(table) as usize <= table.len()
+        && is_between(1, n, 16)
+        && weights::weights_ok(table)
+        && threshold_ok(table)
+        && none_above(n, honest(table))
+        && is_between(1, periods(table), 8)
+        && items(table) <= 64
 }

@@ -1,5 +1,5 @@
 // Sets of peers, by the two kinds of key: a peer added, the members counted and weighed, and the one test of a quorum.
-ghost use Rattle.std.specs.Prelude.{◌≡◌};
+ghost use Rattle.std.specs.Prelude.{◌≡◌, ℕ};
 ghost use Rattle.base.specs.Bits.{member};
 ghost use Rattle.base.specs.Weight.{weight};
 ghost use Rattle.header.specs.Header.{even_in, heavy_in};
@@ -7,31 +7,61 @@ ghost use Rattle.header.specs.Quorum.{room, reaches, count_in, weight_of, with_p
 
 use crate::{Head, Sharers, Signers, joined};
 
+// A set of peers in sixteen bits, whichever keys they are known by.
+pub trait PeerSet: Copy {
+    ghost bits: { Self → ℕ };
+
+    fn of_bits(set: u16) -> Self
+        ensures { bits result ≡ set };
+
+    fn bits(self) -> u16
+        ensures { result ≡ bits self };
+}
+
+impl PeerSet for u16 {
+    ghost bits = { λ set. set };
+
+    fn of_bits(set: u16) -> u16 {
+        set
+    }
+
+    fn bits(self) -> u16 {
+        self
+    }
+}
+
+impl PeerSet for Signers {
+    ghost bits = { λ set. set.0 };
+
+    fn of_bits(set: u16) -> Signers {
+        Signers(set)
+    }
+
+    fn bits(self) -> u16 {
+        self.0
+    }
+}
+
+impl PeerSet for Sharers {
+    ghost bits = { λ set. set.0 };
+
+    fn of_bits(set: u16) -> Sharers {
+        Sharers(set)
+    }
+
+    fn bits(self) -> u16 {
+        self.0
+    }
+}
+
 // The set of peers with peer k; no peer is 0 or above 16.
-pub(crate) fn with_peer(set: u16, k: u8) -> u16
-    ensures { result ≡ with_peer set k }
+pub fn with_peer<S: PeerSet>(set: S, k: u8) -> S
+    ensures { S.bits result ≡ with_peer (S.bits set) k }
 {
-    if k == 0 {
+    if k == 0 || 16 < k {
         return set;
     }
-    if 16 < k {
-        return set;
-    }
-    set | 1 << (k - 1)
-}
-
-// The signers, and peer k.
-pub fn with_signer(set: Signers, k: u8) -> Signers
-    ensures { result.0 ≡ with_peer set.0 k }
-{
-    Signers(with_peer(set.0, k))
-}
-
-// The sharers, and peer k.
-pub fn with_sharer(set: Sharers, k: u8) -> Sharers
-    ensures { result.0 ≡ with_peer set.0 k }
-{
-    Sharers(with_peer(set.0, k))
+    S::of_bits(set.bits() | 1 << (k - 1))
 }
 
 // How many peers are in a set.
@@ -71,25 +101,12 @@ fn weigh(h: Head, set: u16) -> u32
 }
 
 // Whether a set of peers reaches t. In older tables nobody is even or heavy, and the members are counted.
-fn reaches(h: Head, set: u16) -> bool
-    ensures { result ≡ reaches h set }
+pub fn reaches<S: PeerSet>(h: Head, set: S) -> bool
+    ensures { result ≡ reaches h (S.bits set) }
 {
+    let set = set.bits();
     if h.sets / 65536 == 0 {
         return h.t as u32 <= count(set);
     }
     h.t as u32 <= weigh(h, set)
-}
-
-// Whether the signers reach t.
-pub fn signers_reach(h: Head, set: Signers) -> bool
-    ensures { result ≡ reaches h set.0 }
-{
-    reaches(h, set.0)
-}
-
-// Whether the sharers reach t.
-pub fn sharers_reach(h: Head, set: Sharers) -> bool
-    ensures { result ≡ reaches h set.0 }
-{
-    reaches(h, set.0)
 }

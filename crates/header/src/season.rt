@@ -19,14 +19,11 @@ pub fn season_of(table: &[u8]) -> Season
     if base::byte_at(table, 0) != 0 {
         return Season::First;
     }
-    let next = base::byte_at(table, 1);
-    if next == 2 {
-        return Season::Second;
+    match base::byte_at(table, 1) {
+        2 => Season::Second,
+        3 => Season::Third,
+        _ => Season::First,
     }
-    if next == 3 {
-        return Season::Third;
-    }
-    Season::First
 }
 
 // Where the fields of the header start.
@@ -35,8 +32,7 @@ pub(crate) fn fields_at(season: Season) -> u8
 {
     match season {
         Season::First => 0,
-        Season::Second => 2,
-        Season::Third => 2,
+        Season::Second | Season::Third => 2,
     }
 }
 
@@ -44,9 +40,5 @@ pub(crate) fn fields_at(season: Season) -> u8
 pub(crate) fn has_weights(season: Season) -> bool
     ensures { result ≡ has_weights season }
 {
-    match season {
-        Season::First => false,
-        Season::Second => false,
-        Season::Third => true,
-    }
+    matches!(season, Season::Third)
 }

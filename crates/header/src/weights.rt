@@ -20,14 +20,11 @@ pub(crate) fn weight_count(season: Season, table: &[u8]) -> u8
     requires { season ≡ season_of table.now }
     ensures { (result ≡ weight_count table.now) × (result ≤ 16) }
 {
-    if !has_weights(season) {
-        return 0;
+    if has_weights(season) {
+        peers(table).min(16)
+    } else {
+        0
     }
-    let n = peers(table);
-    if n < 16 {
-        return n;
-    }
-    16
 }
 
 // The weight of peer k: its byte, and 1 where it has none.
@@ -45,14 +42,7 @@ pub(crate) fn weights_ok(table: &[u8]) -> bool
     ensures { result ≡ weights_ok table.now }
 {
     let count = weight_count(season_of(table), table);
-    let mut i: u8 = 0;
-    while i < count {
-        if !is_between(1, weight_in(table, i + 1), 4) {
-            return false;
-        }
-        i += 1;
-    }
-    true
+    (0..count).all(|i| is_between(1, weight_in(table, i + 1), 4))
 }
 
 // W, the weight of all peers.
@@ -65,10 +55,8 @@ pub(crate) fn total(table: &[u8]) -> u8
         return n;
     }
     let mut total: u8 = 0;
-    let mut k: u8 = 0;
-    while k < n {
-        k += 1;
-        total += weight_in(table, k);
+    for k in 0..n {
+        total += weight_in(table, k + 1);
     }
     total
 }
@@ -89,11 +77,9 @@ pub(crate) fn peers_with(feature: Feature, table: &[u8]) -> u16
 {
     let count = weight_count(season_of(table), table);
     let mut set: u16 = 0;
-    let mut k: u8 = 0;
-    while k < count {
-        k += 1;
-        if has(feature, weight_in(table, k)) {
-            set = with_peer(set, k);
+    for k in 0..count {
+        if has(feature, weight_in(table, k + 1)) {
+            set = with_peer(set, k + 1);
         }
     }
     set

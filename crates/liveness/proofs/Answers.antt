@@ -11,8 +11,8 @@ use Rattle.rules.specs.declared.Entry.{Entry}
 use Rattle.rules.specs.declared.Entry.TheVariants.{Hash}
 use Rattle.rules.specs.declared.Step.{Step}
 use Rattle.rules.specs.declared.Step.TheVariants.{Fetch, Hear}
-use Rattle.rules.specs.declared.Call.{Call}
-use Rattle.rules.specs.declared.Call.TheVariants.{Formed, Malformed}
+use Rattle.rules.specs.Form.{Call}
+use Rattle.std.specs.Prelude.{Some, None}
 use Rattle.rules.specs.Table.{Table}
 use Rattle.rules.specs.Bag.{is_in, entry_at, capacity}
 use Rattle.rules.specs.State.{State}
@@ -47,8 +47,8 @@ module _ (T : Table) (s : State) where
 
   pub call-room : (c : Call) → length s.bag < capacity → reply T s c ≡ 13 → ⊥
   unfolding reply
-  call-room (Formed st) l e = step_room st l e
-  call-room Malformed l e = absurd (omega arith)
+  call-room (Some st) l e = step_room st l e
+  call-room None l e = absurd (omega arith)
 
   -- a fetch or a hear never is
   pub fetch-room : (j k p : ℕ) → answer T s (Fetch j k p) ≡ 13 → ⊥

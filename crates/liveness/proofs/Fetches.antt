@@ -9,7 +9,7 @@ use lib.ListN.{take}
 use mathlib.Core.Path.{◌≡◌, sym, ap, subst, fun_ext, ◌∙◌}
 use Rattle.base.proofs.Truth.{iff}
 use Rattle.rules.specs.declared.Step.TheVariants.{Take, Fetch, Down}
-use Rattle.rules.specs.declared.Call.TheVariants.{Formed}
+use Rattle.std.specs.Prelude.{Some}
 use Rattle.rules.specs.Table.{Table}
 use Rattle.rules.specs.State.{State}
 use Rattle.rules.specs.Rules.{rule, board_by, board_from}
@@ -37,7 +37,7 @@ pub record Steady (T : Table) (E : Behaviour) (earlier later : List (List ℕ)) 
       → board_by T (held_at E earlier later i) j p ≡ union_board T (E.held earlier) p
 
 module _ {T : Table} {E : Behaviour} (O : Obeys T E) (A : AllHonest T) (earlier later : List (List ℕ)) (p : ℕ)
-    (C : Closed T (E.held earlier) p) (none_down : (i j : ℕ) → Peer T j → step_at later i ≡ Formed (Down j) → ⊥)
+    (C : Closed T (E.held earlier) p) (none_down : (i j : ℕ) → Peer T j → step_at later i ≡ Some (Down j) → ⊥)
     (known : NothingNew T E earlier later p) where
   abbrev begin : State
   begin = E.held earlier
@@ -56,8 +56,8 @@ module _ {T : Table} {E : Behaviour} (O : Obeys T E) (A : AllHonest T) (earlier 
 
   calm : (i : ℕ) → CalmIn T p most (now i)
   calm = along O earlier later (CalmIn T p most) (record { up = C.up; within = union_in T.n (λ j. begin.db j p) })
-      (λ i st e a c I. calm_step T p most (now i) (still_closed i) I st (λ j h u. none_down i j h (e ∙ ap Formed u))
-      (λ j k x u. known i j k x (e ∙ ap Formed u) (its_answer O earlier later i st e ∙ a)) c)
+      (λ i st e a c I. calm_step T p most (now i) (still_closed i) I st (λ j h u. none_down i j h (e ∙ ap Some u))
+      (λ j k x u. known i j k x (e ∙ ap Some u) (its_answer O earlier later i st e ∙ a)) c)
 
   able : (i k : ℕ) → Peer T k → Able T (now i) k
   able i k h = record { peer = h; honest = A.honest k h; up = (calm i).up k h }
@@ -70,7 +70,7 @@ module _ {T : Table} {E : Behaviour} (O : Obeys T E) (A : AllHonest T) (earlier 
 
   -- the places of fetches from every other
   module _ (fetch_at : ℕ → ℕ → ℕ)
-      (fetches : (j k : ℕ) → Peer T j → Peer T k → (j ≡ k → ⊥) → step_at later (fetch_at j k) ≡ Formed (Fetch j k p)) where
+      (fetches : (j k : ℕ) → Peer T j → Peer T k → (j ≡ k → ⊥) → step_at later (fetch_at j k) ≡ Some (Fetch j k p)) where
     -- j's fetches are done by place i
     abbrev Fetched : ℕ → ℕ → Type 0
     Fetched j i = (k : ℕ) → Peer T k → (j ≡ k → ⊥) → fetch_at j k < i

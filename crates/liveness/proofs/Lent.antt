@@ -15,7 +15,7 @@ use Rattle.base.proofs.Sets.{new4}
 use Rattle.rules.specs.declared.Entry.{Entry}
 use Rattle.rules.specs.declared.Entry.TheVariants.{Hash}
 use Rattle.rules.specs.declared.Step.TheVariants.{Hear, Back}
-use Rattle.rules.specs.declared.Call.TheVariants.{Formed}
+use Rattle.std.specs.Prelude.{Some}
 use Rattle.rules.specs.Table.{Table, weigh}
 use Rattle.rules.specs.Bag.{entry_at, signer_of, period_of, board_of}
 use Rattle.rules.specs.State.{State}
@@ -87,7 +87,7 @@ module _ {T : Table} {E : Behaviour} (Y : Obeys T E) (A : AllHonest T) (earlier 
   backed = along Y earlier later (BackedIn T p U begin)
       (record { due = λ k h. inl (K.closed.due k h); only = λ k B b n. split b n })
       (λ i st e a c I. backed_step T p U begin A (now i) I st (λ j u h n. backs_union i j h (record {
-        called = e ∙ ap Formed u;
+        called = e ∙ ap Some u;
         of_p = n;
         taken = its_answer Y earlier later i st e ∙ a;
       })) c)

@@ -14,7 +14,7 @@ use Rattle.base.specs.Tab.{tab}
 use Rattle.base.proofs.Tab.{length-tab, get_or-tab}
 use Rattle.rules.specs.declared.Step.{Step}
 use Rattle.rules.specs.declared.Step.TheVariants.{Fetch, SendHash, Hear, Back}
-use Rattle.rules.specs.declared.Call.TheVariants.{Formed}
+use Rattle.std.specs.Prelude.{Some}
 use Rattle.rules.specs.Form.{read}
 use Rattle.rules.specs.Fields.{fields}
 use Rattle.rules.specs.Table.{Table}
@@ -32,7 +32,7 @@ pub record Part (calls : List (List ℕ)) (from size : ℕ) (f : ℕ → Step) :
   pub plain : (a : ℕ) → (fields (f a)).board ≡ 0
 
 pub said : {calls : List (List ℕ)} {from size : ℕ} {f : ℕ → Step} → Part calls from size f → (a : ℕ) → a < size
-    → step_at calls (from + a) ≡ Formed (f a)
+    → step_at calls (from + a) ≡ Some (f a)
 said {calls} {from} {size} {f} P a l = ap read (P.each a l) ∙ read-written (f a) (omega (arith, P.plain a))
 
 -- along a part: what holds where it begins, and is passed on by each of its steps, holds at each of its places

@@ -7,7 +7,7 @@ use mathlib.Core.Path.{◌≡◌, refl, sym, ap, subst, fun_ext, ◌∙◌}
 use lib.ListN.{length, take}
 use lib.Seq.{take-suc, take_all}
 use Rattle.rules.specs.declared.Step.{Step}
-use Rattle.rules.specs.declared.Call.TheVariants.{Formed}
+use Rattle.std.specs.Prelude.{Some}
 use Rattle.rules.specs.Table.{Table}
 use Rattle.rules.specs.State.{State}
 use Rattle.rules.specs.Form.{read}
@@ -24,7 +24,7 @@ use Rattle.liveness.specs.Places.{Behaviour, behaviour, behaviour_from, call_at,
 use Rattle.liveness.proofs.Keeps.{Keeps, of_growth}
 
 -- a call that says a step stands within the list
-pub in_list : (calls : List (List ℕ)) (i : ℕ) (st : Step) → step_at calls i ≡ Formed st → i < length calls
+pub in_list : (calls : List (List ℕ)) (i : ℕ) (st : Step) → step_at calls i ≡ Some st → i < length calls
 unfolding read
 in_list [] i st e = absurd (let z : ◌≡◌ {A = ℕ} 0 1 = cc in omega arith)
 in_list (c ∷ calls) zero st e = omega arith
@@ -103,20 +103,20 @@ module _ {T : Table} {E : Behaviour} (O : Obeys T E) (earlier later : List (List
       ∙ O.one_more (earlier ++ take i later) (call_at later i)
 
   -- the step at place i: its answer, what it leaves, and so where it is answered 0
-  pub its_answer : (i : ℕ) (st : Step) → step_at later i ≡ Formed st → answer_at E earlier later i ≡ answer T (now i) st
+  pub its_answer : (i : ℕ) (st : Step) → step_at later i ≡ Some st → answer_at E earlier later i ≡ answer T (now i) st
   unfolding reply
   its_answer i st e = O.answers (earlier ++ take i later) (call_at later i) ∙ ap (reply T (now i)) e
 
-  pub now_step : (i : ℕ) (st : Step) → step_at later i ≡ Formed st → now (suc i) ≡ next T (now i) st
+  pub now_step : (i : ℕ) (st : Step) → step_at later i ≡ Some st → now (suc i) ≡ next T (now i) st
   unfolding leave
   now_step i st e = now_next i (in_list later i st e) ∙ ap (leave T (now i)) e
 
-  pub now_done : (i : ℕ) (st : Step) → step_at later i ≡ Formed st → answer T (now i) st ≡ 0 → now (suc i) ≡ (rule T (now i) st).effect
+  pub now_done : (i : ℕ) (st : Step) → step_at later i ≡ Some st → answer T (now i) st ≡ 0 → now (suc i) ≡ (rule T (now i) st).effect
   now_done i st e a = now_step i st e ∙ done T (now i) st a
 
   -- what holds at a place, and is kept by the step there where it is not refused, holds at the next
   one_on : (P : State → Type 0) (i : ℕ) → P (now i)
-      → ((st : Step) → step_at later i ≡ Formed st → answer T (now i) st ≡ 0 → Clear T (now i) st → P (rule T (now i) st).effect)
+      → ((st : Step) → step_at later i ≡ Some st → answer T (now i) st ≡ 0 → Clear T (now i) st → P (rule T (now i) st).effect)
       → P (now (suc i))
   one_on P i q f = go (dec_lt i (length later))
     where
@@ -126,7 +126,7 @@ module _ {T : Table} {E : Behaviour} (O : Obeys T E) (earlier later : List (List
 
   -- what holds at the start, and is kept by each step that is not refused, holds at every place
   pub along : (P : State → Type 0) → P (E.held earlier)
-      → ((i : ℕ) (st : Step) → step_at later i ≡ Formed st → answer T (now i) st ≡ 0 → Clear T (now i) st → P (now i)
+      → ((i : ℕ) (st : Step) → step_at later i ≡ Some st → answer T (now i) st ≡ 0 → Clear T (now i) st → P (now i)
       → P (rule T (now i) st).effect) → (i : ℕ) → P (now i)
   along P p f zero = subst P (sym at-start) p
   along P p f (suc i) = one_on P i (along P p f i) (λ st e a c. f i st e a c (along P p f i))

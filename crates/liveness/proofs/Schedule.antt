@@ -11,8 +11,8 @@ use Rattle.rules.specs.declared.Entry.{Entry}
 use Rattle.rules.specs.declared.Entry.TheVariants.{Hash}
 use Rattle.rules.specs.declared.Step.{Step}
 use Rattle.rules.specs.declared.Step.TheVariants.{Take, Fetch, SendHash, Hear, Back, Down}
-use Rattle.rules.specs.declared.Call.{Call}
-use Rattle.rules.specs.declared.Call.TheVariants.{Formed, Malformed}
+use Rattle.rules.specs.Form.{Call}
+use Rattle.std.specs.Prelude.{Some, None}
 use Rattle.rules.specs.Table.{Table}
 use Rattle.rules.specs.Bag.{is_in, entry_at, enter, capacity}
 use Rattle.rules.specs.State.{State}
@@ -92,22 +92,22 @@ module _ {T : Table} {E : Behaviour} (O : Obeys T E) (A : AllHonest T) (earlier 
   back_again : (j : ℕ) → Peer T j → j - 1 + 1 ≡ j
   back_again j h = omega arith
 
-  fetches : (j k : ℕ) → Peer T j → Peer T k → (j ≡ k → ⊥) → step_at later (fetch_at j k) ≡ Formed (Fetch j k p)
+  fetches : (j k : ℕ) → Peer T j → Peer T k → (j ≡ k → ⊥) → step_at later (fetch_at j k) ≡ Some (Fetch j k p)
   fetches j k hj hk d =
       let (lt, is-k) = among-other n j k hj hk d in
       ap (step_at later) {x = fetch_at j k} {y = 0 + fetch_at j k} (omega arith)
       ∙ said P.fetches (fetch_at j k) (fetch_lt j k hj hk d)
       ∙ rw (cell_row (n - 1) (j - 1) (among j k) lt, cell_col (n - 1) (j - 1) (among j k) lt, back_again j hj, is-k)
 
-  sends : (j : ℕ) → Peer T j → step_at later (hash_at j) ≡ Formed (SendHash j p)
+  sends : (j : ℕ) → Peer T j → step_at later (hash_at j) ≡ Some (SendHash j p)
   sends j h = said P.hashes (j - 1) (omega arith) ∙ rw (back_again j h)
 
-  hears : (j k : ℕ) → Peer T j → Peer T k → step_at later (hear_at j k) ≡ Formed (Hear j (entry k))
+  hears : (j k : ℕ) → Peer T j → Peer T k → step_at later (hear_at j k) ≡ Some (Hear j (entry k))
   hears j k hj hk =
       said P.hears (pair_at j k) (pair_lt j k hj hk)
       ∙ rw (cell_row n (j - 1) (k - 1) (omega arith), cell_col n (j - 1) (k - 1) (omega arith), back_again j hj, back_again k hk)
 
-  backs : (j : ℕ) → Peer T j → step_at later (back_at j) ≡ Formed (Back j)
+  backs : (j : ℕ) → Peer T j → step_at later (back_at j) ≡ Some (Back j)
   backs j h = said P.backs (j - 1) (omega arith) ∙ rw (back_again j h)
 
   now_sent : now (M + n) ≡ sent
@@ -118,15 +118,15 @@ module _ {T : Table} {E : Behaviour} (O : Obeys T E) (A : AllHonest T) (earlier 
 
   -- no call takes a peer down
 
-  one_op : (i : ℕ) (a b : Step) → step_at later i ≡ Formed a → step_at later i ≡ Formed b → (fields a).op ≡ (fields b).op
+  one_op : (i : ℕ) (a b : Step) → step_at later i ≡ Some a → step_at later i ≡ Some b → (fields a).op ≡ (fields b).op
   one_op i a b e u = ap op_of (sym e ∙ u)
     where
       op_of : Call → ℕ
-      op_of (Formed st) = (fields st).op
-      op_of Malformed = 0
+      op_of (Some st) = (fields st).op
+      op_of None = 0
 
-  none_down : (i j : ℕ) → Peer T j → step_at later i ≡ Formed (Down j) → ⊥
-  none_down i j h e = in_parts n p entry (λ i. step_at later i ≡ Formed (Down j) → ⊥)
+  none_down : (i j : ℕ) → Peer T j → step_at later i ≡ Some (Down j) → ⊥
+  none_down i j h e = in_parts n p entry (λ i. step_at later i ≡ Some (Down j) → ⊥)
       (λ a l e. omega (arith, one_op (0 + a) (fetch n p entry a) (Down j) (said P.fetches a l) e))
       (λ a l e. omega (arith, one_op (M + a) (send n p entry a) (Down j) (said P.hashes a l) e))
       (λ a l e. omega (arith, one_op (M + n + a) (hear n p entry a) (Down j) (said P.hears a l) e))
@@ -134,8 +134,8 @@ module _ {T : Table} {E : Behaviour} (O : Obeys T E) (A : AllHonest T) (earlier 
       i (omega (arith, P.long, in_list later i (Down j) e)) e
 
   -- nor is one a take
-  none_taken : (i j k x : ℕ) → step_at later i ≡ Formed (Take j k p x) → ⊥
-  none_taken i j k x e = in_parts n p entry (λ i. step_at later i ≡ Formed (Take j k p x) → ⊥)
+  none_taken : (i j k x : ℕ) → step_at later i ≡ Some (Take j k p x) → ⊥
+  none_taken i j k x e = in_parts n p entry (λ i. step_at later i ≡ Some (Take j k p x) → ⊥)
       (λ a l e. omega (arith, one_op (0 + a) (fetch n p entry a) (Take j k p x) (said P.fetches a l) e))
       (λ a l e. omega (arith, one_op (M + a) (send n p entry a) (Take j k p x) (said P.hashes a l) e))
       (λ a l e. omega (arith, one_op (M + n + a) (hear n p entry a) (Take j k p x) (said P.hears a l) e))
@@ -244,7 +244,7 @@ module _ {T : Table} {E : Behaviour} (O : Obeys T E) (A : AllHonest T) (earlier 
   }
 
   -- no back stands among the fetches
-  back_later : (i l a : ℕ) → a < M → step_at later i ≡ Formed (Back l) → a < i
+  back_later : (i l a : ℕ) → a < M → step_at later i ≡ Some (Back l) → a < i
   back_later i l a h e = go (dec_lt a i)
     where
       go : Dec (a < i) → a < i
@@ -269,10 +269,10 @@ module _ {T : Table} {E : Behaviour} (O : Obeys T E) (A : AllHonest T) (earlier 
       (λ a l e. answers.hear-room T (now (M + n + a)) _ _ (given (M + n + a) _ (said P.hears a l) e))
       (λ a l e. few (M + n + N + a) _ (said P.backs a l) (omega (arith, backed a (omega arith))) e)
     where
-      given : (i : ℕ) (st : Step) → step_at later i ≡ Formed st → answer_at E earlier later i ≡ 13 → answer T (now i) st ≡ 13
+      given : (i : ℕ) (st : Step) → step_at later i ≡ Some st → answer_at E earlier later i ≡ 13 → answer T (now i) st ≡ 13
       given i st s e = sym (its_answer O earlier later i st s) ∙ e
 
-      few : (i : ℕ) (st : Step) → step_at later i ≡ Formed st → length (now i).bag < capacity → answer_at E earlier later i ≡ 13 → ⊥
+      few : (i : ℕ) (st : Step) → step_at later i ≡ Some st → length (now i).bag < capacity → answer_at E earlier later i ≡ 13 → ⊥
       few i st s l e = answers.step_room T (now i) st l (given i st s e)
 
   pub closing : CloseInTurn T E earlier later p

@@ -10,7 +10,7 @@ use Rattle.base.proofs.Weight.{weight_within}
 use Rattle.rules.specs.declared.Entry.{Entry}
 use Rattle.rules.specs.declared.Entry.TheVariants.{Backing, Board}
 use Rattle.rules.specs.declared.Step.TheVariants.{Publish}
-use Rattle.rules.specs.declared.Call.TheVariants.{Formed}
+use Rattle.std.specs.Prelude.{Some}
 use Rattle.rules.specs.Table.{Table, weigh}
 use Rattle.rules.specs.Bag.{is_in, is_backing, entry_at, board_named, enter, boards_in, capacity}
 use Rattle.rules.specs.State.{State}
@@ -66,7 +66,7 @@ module _ {T : Table} {E : Behaviour} (O : Obeys T E) (A : AllHonest T) (p U : �
         let there = subst (λ (a : Entry). is_in a s.bag ≡ true) it (backing_in s.bag e (ap is_backing it)) in
         S.backed.only k B there
 
-    module _ (c : List ℕ) (e k : ℕ) (r : read c ≡ Formed (Publish e)) (it : entry_at s.bag e ≡ Backing k p U)
+    module _ (c : List ℕ) (e k : ℕ) (r : read c ≡ Some (Publish e)) (it : entry_at s.bag e ≡ Backing k p U)
         (room : E.answers calls c ≡ 13 → ⊥) where
       its : E.answers calls c ≡ answer T s (Publish e)
       unfolding reply

@@ -2,7 +2,7 @@
 use Rattle.std.specs.Prelude.{ℕ, ◌<◌, Bool, true, false, List, ◌≡◌, length}
 use Rattle.rules.specs.declared.Entry.TheVariants.{Hash}
 use Rattle.rules.specs.declared.Step.TheVariants.{Fetch, SendHash, Hear, Back, Down}
-use Rattle.rules.specs.declared.Call.TheVariants.{Formed}
+use Rattle.std.specs.Prelude.{Some}
 use Rattle.rules.specs.Table.{Table, quorum}
 use Rattle.rules.specs.Bag.{entry_at}
 use Rattle.rules.specs.State.{State}
@@ -29,25 +29,25 @@ module _ (T : Table) (E : Behaviour) (earlier later : List (List ℕ)) (p : ℕ)
   pub record Exchange (listens : ℕ → ℕ → Bool) : Type 0 where
     -- every peer fetches from every other
     pub fetch_at : ℕ → ℕ → ℕ
-    pub fetches : (j k : ℕ) → Peer T j → Peer T k → (j ≡ k → ⊥) → step_at later (fetch_at j k) ≡ Formed (Fetch j k p)
+    pub fetches : (j k : ℕ) → Peer T j → Peer T k → (j ≡ k → ⊥) → step_at later (fetch_at j k) ≡ Some (Fetch j k p)
     -- each sends its hash
     pub hash_at : ℕ → ℕ
-    pub sends : (j : ℕ) → Peer T j → step_at later (hash_at j) ≡ Formed (SendHash j p)
+    pub sends : (j : ℕ) → Peer T j → step_at later (hash_at j) ≡ Some (SendHash j p)
     -- each hears hashes: the entry that j names is the hash that k sent there
     pub hear_at : ℕ → ℕ → ℕ
     pub entry : ℕ → ℕ → ℕ
     pub hears : (j k : ℕ) → Peer T j → Peer T k → listens j k ≡ true
-        → step_at later (hear_at j k) ≡ Formed (Hear j (entry j k))
+        → step_at later (hear_at j k) ≡ Some (Hear j (entry j k))
     pub of_these : (j k : ℕ) → Peer T j → Peer T k → listens j k ≡ true
         → entry_at (held_at E earlier later (hear_at j k)).bag (entry j k)
         ≡ Hash k p (board_by T (held_at E earlier later (hash_at k)) k p)
     -- and each backs
     pub back_at : ℕ → ℕ
-    pub backs : (j : ℕ) → Peer T j → step_at later (back_at j) ≡ Formed (Back j)
+    pub backs : (j : ℕ) → Peer T j → step_at later (back_at j) ≡ Some (Back j)
 
   -- at place i a back by j is accepted while j's c is p
   pub record BacksAt (i j : ℕ) : Type 0 where
-    pub called : step_at later i ≡ Formed (Back j)
+    pub called : step_at later i ≡ Some (Back j)
     pub of_p : (held_at E earlier later i).to_back j ≡ p
     pub taken : answer_at E earlier later i ≡ 0
 
@@ -65,7 +65,7 @@ module _ (T : Table) (E : Behaviour) (earlier later : List (List ℕ)) (p : ℕ)
 
   -- no peer goes down, and the bag is never full: no call is answered 13
   pub record Undisturbed : Type 0 where
-    pub none_down : (i j : ℕ) → Peer T j → step_at later i ≡ Formed (Down j) → ⊥
+    pub none_down : (i j : ℕ) → Peer T j → step_at later i ≡ Some (Down j) → ⊥
     pub never_full_lem : (i : ℕ) → i < length later → answer_at E earlier later i ≡ 13 → ⊥
 
   -- the close, in which each peer hears a quorum of the hashes

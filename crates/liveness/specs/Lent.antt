@@ -4,7 +4,7 @@ use Rattle.std.specs.Prelude.{ℕ, ◌<◌, true, false, ◌&&◌, List, [], ◌
 use Rattle.base.specs.Bits.{bit}
 use Rattle.rules.specs.declared.Entry.TheVariants.{Backing}
 use Rattle.rules.specs.declared.Step.TheVariants.{Take, Publish}
-use Rattle.rules.specs.declared.Call.TheVariants.{Formed}
+use Rattle.std.specs.Prelude.{Some}
 use Rattle.rules.specs.Table.{Table, quorum}
 use Rattle.rules.specs.Bag.{is_in, entry_at, boards_in, capacity}
 use Rattle.rules.specs.State.{State}
@@ -20,11 +20,11 @@ use Rattle.liveness.specs.InTurn.{CloseInTurn}
 module _ (T : Table) (E : Behaviour) (earlier later : List (List ℕ)) (p : ℕ) where
   -- no take of p is accepted: between the calls of the close stand posts and steps for other periods
   abbrev pub NoTakes : Type 0
-  NoTakes = (i j k x : ℕ) → step_at later i ≡ Formed (Take j k p x) → answer_at E earlier later i ≡ 0 → ⊥
+  NoTakes = (i j k x : ℕ) → step_at later i ≡ Some (Take j k p x) → answer_at E earlier later i ≡ 0 → ⊥
 
   -- or each that is accepted takes a signature that some peer's database of p has
   abbrev pub NothingNew : Type 0
-  NothingNew = (i j k x : ℕ) → step_at later i ≡ Formed (Take j k p x) → answer_at E earlier later i ≡ 0
+  NothingNew = (i j k x : ℕ) → step_at later i ≡ Some (Take j k p x) → answer_at E earlier later i ≡ 0
       → union T (held_at E earlier later i) p x k ≡ true
 
 -- After some calls the board U of period p can be published, where the bag was `before` when the close began.
@@ -35,7 +35,7 @@ pub record CanPublish (T : Table) (E : Behaviour) (before : State) (calls : List
   pub only : (e k B : ℕ) → entry_at (E.held calls).bag e ≡ Backing k p B
       → is_in (Backing k p B) before.bag ≡ false → B ≡ U
   -- publishing any backing of U answers 0 unless the bag is full, and then U is published
-  pub publishes : (c : List ℕ) (e k : ℕ) → read c ≡ Formed (Publish e)
+  pub publishes : (c : List ℕ) (e k : ℕ) → read c ≡ Some (Publish e)
       → entry_at (E.held calls).bag e ≡ Backing k p U → (E.answers calls c ≡ 13 → ⊥)
       → (E.answers calls c ≡ 0) × (is_there (boards_in (E.held (calls ++ (c ∷ []))).bag) p U ≡ true)
 

@@ -1,6 +1,6 @@
 -- What those outside see of an engine, and the places of a list of calls that it is given.
 use Rattle.std.specs.Prelude.{ℕ, List, [], ◌++◌, get_or, take}
-use Rattle.rules.specs.declared.Call.{Call}
+use Rattle.rules.specs.Form.{Call}
 use Rattle.rules.specs.State.{State}
 use Rattle.rules.specs.Form.{read}
 use Rattle.rules.specs.Run.{Engine, after, store_from, store_after}

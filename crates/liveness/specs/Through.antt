@@ -3,7 +3,7 @@ use Rattle.std.specs.Prelude.{ℕ, ◌<◌, true, ◌&&◌, List, [], ◌∷◌,
 use Rattle.base.specs.Bits.{bit}
 use Rattle.rules.specs.declared.Entry.TheVariants.{Backing}
 use Rattle.rules.specs.declared.Step.TheVariants.{Publish}
-use Rattle.rules.specs.declared.Call.TheVariants.{Formed}
+use Rattle.std.specs.Prelude.{Some}
 use Rattle.rules.specs.Table.{Table, quorum}
 use Rattle.rules.specs.Bag.{entry_at, boards_in, capacity}
 use Rattle.rules.specs.State.{State}
@@ -27,7 +27,7 @@ pub record Publishable (T : Table) (E : Behaviour) (calls : List (List ℕ)) (p 
   -- every backing of p in the bag is of U
   pub only : (e k B : ℕ) → entry_at (E.held calls).bag e ≡ Backing k p B → B ≡ U
   -- publishing any of them answers 0 unless the bag is full, and then the period's board is U
-  pub publishes : (c : List ℕ) (e k B : ℕ) → read c ≡ Formed (Publish e)
+  pub publishes : (c : List ℕ) (e k B : ℕ) → read c ≡ Some (Publish e)
       → entry_at (E.held calls).bag e ≡ Backing k p B → (E.answers calls c ≡ 13 → ⊥)
       → (E.answers calls c ≡ 0) × TheBoard (E.held (calls ++ (c ∷ []))) p U
 

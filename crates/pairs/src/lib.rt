@@ -1,4 +1,4 @@
-// Pairs of offset and length, m of them from byte `at` of a list of bytes on, and the texts that they mark out in it.
+// Pairs of offset and length, and the texts that they mark out in the list of bytes in which they stand.
 // It uses the crate base and no other; it knows no table.
 #![tactic(auto)]
 
@@ -15,91 +15,84 @@ fn pair_number(s: &[u8], i: usize) -> u16
     if s.len() < i + 2 {
         return base::number_at(s, i, 2) as u16;
     }
-    let high = base::byte_at(s, i);
-    let low = base::byte_at(s, i + 1);
-    (high as u16) * 256 + (low as u16)
-}
-
-// The offset that pair k gives.
-pub fn offset(s: &[u8], at: u8, k: u8) -> u16
-    ensures { result ≡ offset_of s.now at k }
-{
-    pair_number(s, at as usize + 4 * (k as usize))
-}
-
-// The length that pair k gives.
-pub fn size(s: &[u8], at: u8, k: u8) -> u16
-    ensures { result ≡ size_of s.now at k }
-{
-    pair_number(s, at as usize + 4 * (k as usize) + 2)
+    (s[i] as u16) * 256 + (s[i + 1] as u16)
 }
 
 // Where the pairs end, and the first text starts.
-pub fn first_offset(at: u8, m: u8) -> usize
-    ensures { result ≡ first_offset at m }
+pub fn first_offset(at: u8, count: u8) -> usize
+    ensures { result ≡ first_offset at count }
 {
-    at as usize + 4 * (m as usize)
+    at as usize + 4 * (count as usize)
 }
 
-// Where what stands before text k ends.
-fn end_before(s: &[u8], at: u8, m: u8, k: u8) -> usize
-    ensures { result ≡ end_before s.now at m k }
-{
-    if k == 0 {
-        return first_offset(at, m);
+// The pairs, `count` of them, that stand in a list of bytes from byte `at` on.
+#[derive(Clone, Copy)]
+pub struct Pairs<'a> {
+    pub bytes: &'a [u8],
+    pub at: u8,
+    pub count: u8,
+}
+
+impl<'a> Pairs<'a> {
+    // The offset that pair k gives.
+    pub fn offset(self, k: u8) -> u16
+        ensures { result ≡ offset_of self.entry.bytes.now self.entry.at k }
+    {
+        pair_number(self.bytes, self.at as usize + 4 * (k as usize))
     }
-    let start = offset(s, at, k - 1);
-    let len = size(s, at, k - 1);
-    start as usize + len as usize
-}
 
-// Whether text k starts where what stands before it ends.
-fn starts_at_end(s: &[u8], at: u8, m: u8, k: u8) -> bool
-    ensures { result ≡ starts_at_end s.now at m k }
-{
-    let start = offset(s, at, k) as usize;
-    start == end_before(s, at, m, k)
-}
-
-// Whether the pairs are not cut short, and each text starts where the one before it ends.
-pub fn pairs_fit(s: &[u8], at: u8, m: u8) -> bool
-    ensures { result ≡ pairs_fit s.now at m }
-{
-    if s.len() < first_offset(at, m) {
-        return false;
+    // The length that pair k gives.
+    pub fn size(self, k: u8) -> u16
+        ensures { result ≡ size_of self.entry.bytes.now self.entry.at k }
+    {
+        pair_number(self.bytes, self.at as usize + 4 * (k as usize) + 2)
     }
-    let mut k: u8 = 0;
-    while k < m {
-        if !starts_at_end(s, at, m, k) {
-            return false;
+
+    // Where what stands before text k ends.
+    fn end_before(self, k: u8) -> usize
+        ensures { result ≡ end_before self.entry.bytes.now self.entry.at self.entry.count k }
+    {
+        if k == 0 {
+            return first_offset(self.at, self.count);
         }
-        k += 1;
+        self.offset(k - 1) as usize + self.size(k - 1) as usize
     }
-    true
-}
 
-// Where the last text ends.
-pub fn last_end(s: &[u8], at: u8, m: u8) -> usize
-    ensures { result ≡ last_end s.now at m }
-{
-    end_before(s, at, m, m)
-}
-
-// Whether the pairs fit, and the last text ends where the list does.
-pub fn pairs_ok(s: &[u8], at: u8, m: u8) -> bool
-    ensures { result ≡ pairs_ok s.now at m }
-{
-    if !pairs_fit(s, at, m) {
-        return false;
+    // Whether text k starts where what stands before it ends.
+    #[tactic(auto, unfolding(crate::specs::Pairs::starts_at_end))]
+    fn starts_at_end(self, k: u8) -> bool
+        ensures { result ≡ starts_at_end self.entry.bytes.now self.entry.at self.entry.count k }
+    {
+        self.offset(k) as usize == self.end_before(k)
     }
-    last_end(s, at, m) == s.len()
-}
 
-// Text k, as the part of the list that it is.
-pub fn text(s: &[u8], at: u8, k: u8) -> &[u8]
-    ensures { result.now ≡ text_of s.now at k }
-{
-    let start = offset(s, at, k) as usize;
-    let len = size(s, at, k) as usize;
-    base::part_of(s, start, len)
+    // Whether the pairs are not cut short, and each text starts where the one before it ends.
+    pub fn fit(self) -> bool
+        ensures { result ≡ pairs_fit self.entry.bytes.now self.entry.at self.entry.count }
+    {
+        first_offset(self.at, self.count) <= self.bytes.len()
+            && (0..self.count).all(|k| self.starts_at_end(k))
+    }
+
+    // Where the last text ends.
+    pub fn last_end(self) -> usize
+        ensures { result ≡ last_end self.entry.bytes.now self.entry.at self.entry.count }
+    {
+        self.end_before(self.count)
+    }
+
+    // Whether the pairs fit, and the last text ends where the list does.
+    #[tactic(auto, unfolding(crate::specs::Pairs::pairs_ok))]
+    pub fn are_ok(self) -> bool
+        ensures { result ≡ pairs_ok self.entry.bytes.now self.entry.at self.entry.count }
+    {
+        self.fit() && self.last_end() == self.bytes.len()
+    }
+
+    // Text k, as the part of the list that it is.
+    pub fn text(self, k: u8) -> &'a [u8]
+        ensures { result.now ≡ text_of self.entry.bytes.now self.entry.at k }
+    {
+        base::part_of(self.bytes, self.offset(k) as usize, self.size(k) as usize)
+    }
 }

@@ -7,10 +7,12 @@ use mathlib.Core.Logic.{◌⊎◌, inl, inr}
 use mathlib.Core.Path.{◌≡◌, refl, sym, ap, subst, ◌∙◌}
 use lib.Dec.{leb, ltb}
 use lib.ListN.{length}
-use borrow.Author.Tests.{le-leb, lt-leb, le-ltb, lt-ltb, ne_eqb, ltb-true, ltb-false, not-false}
-use Rattle.base.specs.Refusals.{numbered, first}
+use borrow.Author.Tests.{le-leb, lt-leb, le-ltb, lt-ltb, ne_eqb, ltb-true, ltb-false}
+use Rattle.std.specs.Prelude.{IsErr, Result, Ok, Err, Option, Some, None}
+use Rattle.base.specs.Refusals.{answer_of, numbered, first}
+use Rattle.base.specs.declared.refusal.Refusal.{Refusal}
 use Rattle.base.proofs.Truth.{either}
-use Rattle.base.proofs.Refusals.{stop, pass, none_left, first_passed, first_given}
+use Rattle.base.proofs.Refusals.{stop, pass, none_left, first_passed, first_given, refused_ne0}
 use Rattle.header.specs.Header.{head_of, periods_of, items_of}
 use Rattle.header.specs.declared.Head.{Head}
 use Rattle.pairs.specs.Pairs.{first_offset}
@@ -21,19 +23,16 @@ use Rattle.bits.specs.Row.{Bytes}
 use Rattle.valid.specs.StateOk.{state_ok}
 use Rattle.valid.proofs.Ready.{ok_of_ready}
 use Rattle.engine.proofs.Calls.{ready_read}
-use Rattle.text.specs.Wrote.{over, Wrote}
-use Rattle.text.proofs.Writing.{◌▷◌, renamed}
+use Rattle.text.specs.declared.Printer.{Printer}
+use Rattle.text.specs.Wrote.{over, Put}
+use Rattle.text.proofs.Puts.{◌▷◌, renamed}
 use Rattle.sheets.specs.Sheet.{pairs_at}
 use Rattle.sheets.specs.Made.{pairs_from, joined, sheet_of}
 use Rattle.sheets.proofs.Joined.{sheet_length}
 use Rattle.printing.specs.Board.{boards_on, first_board, published, board_texts}
-use Rattle.printing.specs.Written.{sheet_for, board_refusals, write_answer, written, sheet_left, Judged}
+use Rattle.printing.specs.Written.{sheet_for, board_refusals, write_answer, written, sheet_left, in_numbers, Judged}
 use Rattle.printing.specs.Measured.{Measured, Printed}
 use Rattle.printing.specs.declared.Extent.{Extent}
-use Rattle.printing.specs.declared.Written.{Written}
-use Rattle.printing.specs.declared.Written.TheVariants.{Sheet, Refused}
-use Rattle.printing.specs.declared.board.Published.{Published}
-use Rattle.printing.specs.declared.board.Published.TheVariants.{Items, Nothing}
 use Rattle.printing.proofs.Finding.{board_there, board_absent}
 
 -- the sheet of a board: period, count, pairs and texts, one after the other, or no room for them
@@ -45,8 +44,8 @@ module _ (table : List ℕ) (p B m : ℕ) {e : Extent} (M : Measured table B m e
   first_text : n ≡ first_offset pairs_at (length texts)
   first_text = start ∙ ap (first_offset pairs_at) M.counted
 
-  pub sheet_written : {l l₁ l₂ l₃ l₄ : List ℕ} {a₁ a₂ a₃ a₄ : ℕ} → Wrote l 0 (p ∷ []) l₁ a₁ → Wrote l₁ a₁ (e.count ∷ []) l₂ a₂
-      → Wrote l₂ a₂ (pairs_from n texts) l₃ a₃ → Wrote l₃ a₃ (joined texts) l₄ a₄ → Wrote l 0 (sheet_of p texts) l₄ a₄
+  pub sheet_written : {q q₁ q₂ q₃ q₄ : Printer} → Put q (p ∷ []) q₁ → Put q₁ (e.count ∷ []) q₂ → Put q₂ (pairs_from n texts) q₃
+      → Put q₃ (joined texts) q₄ → Put q (sheet_of p texts) q₄
   unfolding sheet_of
   sheet_written period count pairs rest =
       period ▷ renamed (ap (λ (k : ℕ). k ∷ []) M.counted) count
@@ -55,16 +54,17 @@ module _ (table : List ℕ) (p B m : ℕ) {e : Extent} (M : Measured table B m e
   long : n + e.bytes ≡ length (sheet_of p texts)
   long = omega (arith, sheet_length p texts, first_text, M.sized)
 
-  pub no_room : (was : List ℕ) → length was < n + e.bytes → Printed (sheet_of p texts) was was (Refused 16)
+  pub no_room : (was : List ℕ) → length was < n + e.bytes → Printed (sheet_of p texts) was was (Err 16)
   no_room was l =
       let short = lt-ltb (length was) (length (sheet_of p texts)) (omega (arith, long)) in
       record { answer = rw short; bytes = rw short }
 
-  pub printed : {was is : List ℕ} {to : ℕ} → n + e.bytes ≤ length was → length was < 2 ^ 64 → Wrote was 0 (sheet_of p texts) is to
-      → Printed (sheet_of p texts) was is (Sheet (n + e.bytes))
-  printed {was} l room w =
+  pub printed : {was is : List ℕ} {q r : Printer} → n + e.bytes ≤ length was → length was < 2 ^ 64 → q.out.now ≡ was → q.at ≡ 0
+      → Put q (sheet_of p texts) r → is ≡ r.out.now → Printed (sheet_of p texts) was is (Ok (n + e.bytes))
+  printed {was} l room from start-is w is-is =
       let fits = le-ltb (length was) (length (sheet_of p texts)) (omega (arith, long)) in
-      record { answer = rw fits (ap Sheet long); bytes = rw fits (w.bytes room) }
+      let over-it = w.wrote.bytes (rw from room) in
+      record { answer = rw fits (ap Ok long); bytes = rw fits (is-is ∙ rw (from, start-is) at over-it) }
 
 pub few_items : (table : List ℕ) {m : ℕ} → refusal table ≡ 0 → m ≡ items_of table → m ≤ 64
 few_items table taken e = omega (arith, (sound table taken).items_most_lem)
@@ -114,13 +114,10 @@ module _ (table s : List ℕ) (p room : ℕ) where
 
 -- a table that is taken, and a state that is one of it
 
-pub both_good : (table s : List ℕ) {r : ℕ} {h : Head} {ok : Bool} → r ≡ refusal table → r ≡ 0 → h ≡ head_of table → ok ≡ state_ok h s
-    → Bytes s → not ok ≡ false → Judged table s h
-both_good table s {r} {h} {ok} checked good head tested bytes y = record {
-  taken = sym checked ∙ good;
-  head = head;
-  ready = ready_read table checked good s h head tested bytes (not-false ok y);
-}
+pub both_good : (table s : List ℕ) {h : Head} {ok : Bool} → 0 ≡ refusal table → h ≡ head_of table → ok ≡ state_ok h s → Bytes s → ok ≡ true
+    → Judged table s h
+both_good table s {h} fits head tested bytes y =
+    record { taken = sym fits; head = head; ready = ready_read table fits h head s bytes (sym tested ∙ y) }
 
 module _ {table s : List ℕ} {h : Head} (given : Judged table s h) where
   pub items-read : h.items ≡ items_of table
@@ -136,53 +133,53 @@ module _ {table s : List ℕ} {h : Head} (given : Judged table s h) where
 -- what is answered, and what is left in the buffer
 
 module _ (table s : List ℕ) (p : ℕ) (was : List ℕ) where
-  abbrev pub Ended : Written → List ℕ → Type 0
+  abbrev pub Ended : Result ℕ ℕ → List ℕ → Type 0
   Ended r is = (r ≡ written table s p (length was)) × (is ≡ sheet_left table s p was)
 
-  refused : {n : ℕ} → (n ≡ 0 → ⊥) → n ≡ write_answer table s p (length was) → Ended (Refused n) was
+  refused : {n : ℕ} → (n ≡ 0 → ⊥) → n ≡ write_answer table s p (length was) → Ended (Err n) was
   unfolding written sheet_left
   refused {n} bad is = (rw (← is, ne_eqb n 0 bad), rw (← is, ne_eqb n 0 bad))
 
-  done : {r : Written} {is : List ℕ} → 0 ≡ write_answer table s p (length was) → r ≡ Sheet (length (sheet_for table s p))
+  done : {r : Result ℕ ℕ} {is : List ℕ} → 0 ≡ write_answer table s p (length was) → r ≡ Ok (length (sheet_for table s p))
       → is ≡ over was 0 (sheet_for table s p) → Ended r is
   unfolding written sheet_left
   done zero length-is bytes = (rw (← zero) length-is, rw (← zero) bytes)
 
-  pub table-refused : {r : ℕ} → r ≡ refusal table → (r ≡ 0 → ⊥) → Ended (Refused r) was
-  table-refused is bad = refused bad (table_given table s p (length was) is bad)
+  pub table_refused : (a : Result ℕ Refusal) → IsErr a → answer_of a ≡ refusal table → Ended (in_numbers a) was
+  table_refused (Ok n) never is = absurd (cc)
+  table_refused (Err r) bad is = refused (refused_ne0 r) (table_given table s p (length was) is (refused_ne0 r))
 
-  pub state_refused : {r : ℕ} {h : Head} {ok : Bool} → r ≡ refusal table → r ≡ 0 → h ≡ head_of table → ok ≡ state_ok h s
-      → not ok ≡ true → Ended (Refused 14) was
-  state_refused checked good head tested bad =
+  pub state_refused : {h : Head} {ok : Bool} → 0 ≡ refusal table → h ≡ head_of table → ok ≡ state_ok h s → ok ≡ false → Ended (Err 14) was
+  state_refused fits head tested bad =
       let judged = tested ∙ ap (λ h. state_ok h s) head in
-      refused (λ e. omega arith) (state_given table s p (length was) (sym checked ∙ good) judged bad)
+      refused (λ e. omega arith) (state_given table s p (length was) (sym fits) judged (ap not bad))
 
   -- on a table that is taken and a state that is ready
   module _ {h : Head} (given : Judged table s h) where
     state_taken : state_ok (head_of table) s ≡ true
     state_taken = subst (λ h. state_ok h s ≡ true) given.head (ok_of_ready h s given.ready)
 
-    pub no_period_lem : h.periods ≤ p → Ended (Refused 6) was
+    pub no_period_lem : h.periods ≤ p → Ended (Err 6) was
     no_period_lem l =
         refused (λ e. omega arith) (name_given table s p (length was) given.taken state_taken (omega (arith, l, periods-read given)))
 
-    module _ (named : p < h.periods) {f : Published} (looked : f ≡ published (boards_on s) p) where
+    module _ (named : p < h.periods) {f : Option ℕ} (looked : f ≡ published (boards_on s) p) where
       in_range_lem : p < periods_of table
       in_range_lem = omega (arith, named, periods-read given)
 
-      pub no_board_lem : f ≡ Nothing → Ended (Refused 10) was
+      pub no_board_lem : f ≡ None → Ended (Err 10) was
       no_board_lem is =
           refused (λ e. omega arith) (unknown_given table s p (length was) given.taken state_taken in_range_lem
           (board_absent (boards_on s) p looked is))
 
-      module _ {B : ℕ} (is : f ≡ Items B) where
+      module _ {B : ℕ} (is : f ≡ Some B) where
         there : has_board (boards_on s) p ≡ true
         there = (board_there (boards_on s) p looked is).0
 
         made : sheet_of p (board_texts table B h.items) ≡ sheet_for table s p
         made = is_made given p (board_there (boards_on s) p looked is).1
 
-        pub ended : {r : Written} {is : List ℕ} → Printed (sheet_of p (board_texts table B h.items)) was is r → Ended r is
+        pub ended : {r : Result ℕ ℕ} {is : List ℕ} → Printed (sheet_of p (board_texts table B h.items)) was is r → Ended r is
         ended {r} {is} P = go (either (ltb (length was) (length (sheet_for table s p)))) (subst (λ t. Printed t was is r) made P)
           where
             go : (ltb (length was) (length (sheet_for table s p)) ≡ true) ⊎ (ltb (length was) (length (sheet_for table s p)) ≡ false)

@@ -1,12 +1,11 @@
 -- One item more of the table: where the board has it, its text is the last of the board's texts.
 use Prim.Native.Nat.{ℕ, ◌+◌, ◌≤◌}
-use native.Mathlib.Nat.{le_antisymm}
 use native.Mathlib.Numerals.{add-one}
 use native.Mathlib.Omega.{arith}
 use mathlib.Core.Bool.{Bool, true, false, not, cond}
 use mathlib.Core.List.{List, [], ◌∷◌, ◌++◌, append-nil}
 use mathlib.Core.Logic.{◌⊎◌, inl, inr}
-use mathlib.Core.Path.{◌≡◌, refl, sym, ap, subst, ◌∙◌}
+use mathlib.Core.Path.{◌≡◌, refl, sym, ap, ◌∙◌}
 use lib.Dec.{ltb}
 use lib.ListN.{length, length-append}
 use borrow.Author.Tests.{ltb-true, not-true, not-false}
@@ -16,8 +15,9 @@ use Rattle.header.specs.Header.{items_of}
 use Rattle.ballot.specs.Table.{item_below, item_text, refusal}
 use Rattle.ballot.proofs.Readings.{item_most}
 use Rattle.ballot.proofs.Sound.{sound}
-use Rattle.text.specs.Wrote.{Wrote}
-use Rattle.text.proofs.Writing.{none, ◌▷◌, kept, left_out, renamed}
+use Rattle.text.specs.declared.Printer.{Printer}
+use Rattle.text.specs.Wrote.{Put}
+use Rattle.text.proofs.Puts.{none, ◌▷◌, kept, left_out, renamed}
 use Rattle.sheets.specs.Made.{pair_bytes, pairs_from, joined}
 use Rattle.sheets.proofs.Joined.{joined-append, pairs-append}
 use Rattle.printing.specs.Board.{board_texts}
@@ -96,61 +96,49 @@ module _ (table : List ℕ) (B x : ℕ) where
           short = omega (arith, M.short, text_most table taken x);
         }
 
--- no item yet, and all
+-- no item yet
 pub measured_none : (table : List ℕ) (B : ℕ) → Measured table B 0 (record { count = 0; bytes = 0 })
 unfolding board_texts joined
 measured_none table B = record { counted = refl; sized = refl; few = omega arith; short = omega arith }
 
-pub measured_all : {table : List ℕ} {B m x : ℕ} {e : Extent} → x ≤ m → m ≤ x → Measured table B x e → Measured table B m e
-measured_all {table} {B} {m} {x} {e} p q M = subst (λ (k : ℕ). Measured table B k e) (le_antisymm p q) M
-
 -- what is written of item x: its pair or its text where the board has it, and nothing where not
 
 module _ (table : List ℕ) (B x : ℕ) {r : Bool} (asked : r ≡ bit B x) where
-  pub pair_written : (o : ℕ) {l l₁ t : List ℕ} {a a₁ : ℕ} → r ≡ true → t ≡ item_text table x → Wrote l a (pair_bytes o (length t)) l₁ a₁
-      → Wrote l a (pair_on table B o x) l₁ a₁
+  pub pair_written : (o : ℕ) {q q₁ : Printer} {t : List ℕ} → not r ≡ false → t ≡ item_text table x → Put q (pair_bytes o (length t)) q₁
+      → Put q (pair_on table B o x) q₁
   unfolding pair_on
-  pair_written o on is w = kept asked on (renamed (ap (λ (u : List ℕ). pair_bytes o (length u)) is) w)
+  pair_written o on is w = kept asked (not-false r on) (renamed (ap (λ (u : List ℕ). pair_bytes o (length u)) is) w)
 
-  pub pair_left_out : {l : List ℕ} {a : ℕ} (o : ℕ) → r ≡ false → Wrote l a (pair_on table B o x) l a
+  pub pair_left_out : {q : Printer} (o : ℕ) → not r ≡ true → Put q (pair_on table B o x) q
   unfolding pair_on
-  pair_left_out o off = left_out _ asked off
+  pair_left_out o off = left_out _ asked (not-true r off)
 
-  pub text_written : {l l₁ t : List ℕ} {a a₁ : ℕ} → r ≡ true → t ≡ item_text table x → Wrote l a t l₁ a₁
-      → Wrote l a (text_if table B x) l₁ a₁
+  pub text_written : {q q₁ : Printer} {t : List ℕ} → not r ≡ false → t ≡ item_text table x → Put q t q₁ → Put q (text_if table B x) q₁
   unfolding text_if
-  text_written on is w = kept asked on (renamed is w)
+  text_written on is w = kept asked (not-false r on) (renamed is w)
 
-  pub text_left_out : {l : List ℕ} {a : ℕ} → r ≡ false → Wrote l a (text_if table B x) l a
+  pub text_left_out : {q : Printer} → not r ≡ true → Put q (text_if table B x) q
   unfolding text_if
-  text_left_out off = left_out _ asked off
+  text_left_out off = left_out _ asked (not-true r off)
 
--- the loops that write: no item yet, one more, all
+-- the loops that write: no item yet, one more
 
 module _ (table : List ℕ) (B : ℕ) where
-  pub pairs-none : {l : List ℕ} {a : ℕ} (first : ℕ) → Wrote l a (pairs_from first (board_texts table B 0)) l a
+  pub pairs-none : {q : Printer} (first : ℕ) → Put q (pairs_from first (board_texts table B 0)) q
   unfolding board_texts pairs_from
   pairs-none first = none
 
-  pub pairs_next : {l l₁ l₂ : List ℕ} {a a₁ a₂ : ℕ} (first x : ℕ) {e : Extent} → Measured table B x e
-      → Wrote l a (pairs_from first (board_texts table B x)) l₁ a₁ → Wrote l₁ a₁ (pair_on table B (first + e.bytes) x) l₂ a₂
-      → Wrote l a (pairs_from first (board_texts table B (x + 1))) l₂ a₂
+  pub pairs_next : {q q₁ q₂ : Printer} (first x : ℕ) {e : Extent} → Measured table B x e
+      → Put q (pairs_from first (board_texts table B x)) q₁ → Put q₁ (pair_on table B (first + e.bytes) x) q₂
+      → Put q (pairs_from first (board_texts table B (x + 1))) q₂
   pairs_next first x {e} M before next =
       let here = ap (λ (n : ℕ). pair_on table B (first + n) x) M.sized in
       renamed (sym (pairs_more table B x first)) (before ▷ renamed here next)
 
-  pub pairs-all : {l l₁ : List ℕ} {a a₁ : ℕ} (first m x : ℕ) → x ≤ m → m ≤ x
-      → Wrote l a (pairs_from first (board_texts table B x)) l₁ a₁ → Wrote l a (pairs_from first (board_texts table B m)) l₁ a₁
-  pairs-all first m x p q w = renamed (ap (λ (k : ℕ). pairs_from first (board_texts table B k)) (le_antisymm p q)) w
-
-  pub texts_none : {l : List ℕ} {a : ℕ} → Wrote l a (joined (board_texts table B 0)) l a
+  pub texts_none : {q : Printer} → Put q (joined (board_texts table B 0)) q
   unfolding board_texts joined
   texts_none = none
 
-  pub texts_next : {l l₁ l₂ : List ℕ} {a a₁ a₂ : ℕ} (x : ℕ) → Wrote l a (joined (board_texts table B x)) l₁ a₁
-      → Wrote l₁ a₁ (text_if table B x) l₂ a₂ → Wrote l a (joined (board_texts table B (x + 1))) l₂ a₂
+  pub texts_next : {q q₁ q₂ : Printer} (x : ℕ) → Put q (joined (board_texts table B x)) q₁ → Put q₁ (text_if table B x) q₂
+      → Put q (joined (board_texts table B (x + 1))) q₂
   texts_next x before next = renamed (sym (texts_more table B x)) (before ▷ next)
-
-  pub texts_all : {l l₁ : List ℕ} {a a₁ : ℕ} (m x : ℕ) → x ≤ m → m ≤ x
-      → Wrote l a (joined (board_texts table B x)) l₁ a₁ → Wrote l a (joined (board_texts table B m)) l₁ a₁
-  texts_all m x p q w = renamed (ap (λ (k : ℕ). joined (board_texts table B k)) (le_antisymm p q)) w

@@ -11,6 +11,7 @@ use lib.Dec.{eqb, leb}
 use lib.ListN.{length, take, drop, get_or}
 use lib.Seq.{sets-eq, take_at, drop_at}
 use borrow.Author.Tests.{eqb-true, leb-false, ltb-false, le-ltb, not-false}
+use Rattle.std.specs.Prelude.{Result, Ok, Err}
 use Rattle.base.specs.Bits.{bit}
 use Rattle.base.specs.Refusals.{numbered, first}
 use Rattle.base.specs.Sums.{how_many}
@@ -30,7 +31,6 @@ use Rattle.sheets.proofs.Exact.{reader_exact}
 use Rattle.sheets.proofs.ReadBack.{reads, made_most}
 use Rattle.printing.specs.Board.{boards_on, first_board, board_texts}
 use Rattle.printing.specs.Written.{sheet_for, board_refusals, write_answer, written, sheet_left}
-use Rattle.printing.specs.declared.Written.TheVariants.{Sheet, Refused}
 use Rattle.printing.specs.ReadsBack.{OnSheet, ReadsAs, WroteBoard, ReadsBack}
 use Rattle.printing.proofs.Chosen.{as_many, source, place, listed}
 
@@ -135,18 +135,18 @@ module _ (table s : List ℕ) (p : ℕ) where
     }
 
   -- an answer that is a length is 0, and the length is the sheet's
-  answered : (room n : ℕ) → written table s p room ≡ Sheet n → (write_answer table s p room ≡ 0) × (n ≡ length (sheet_for table s p))
+  answered : (room n : ℕ) → written table s p room ≡ Ok n → (write_answer table s p room ≡ 0) × (n ≡ length (sheet_for table s p))
   unfolding written
   answered room n is = go (either (eqb (write_answer table s p room) 0))
     where
       go : (eqb (write_answer table s p room) 0 ≡ true) ⊎ (eqb (write_answer table s p room) 0 ≡ false)
           → (write_answer table s p room ≡ 0) × (n ≡ length (sheet_for table s p))
-      go (inl zero) = let long : Sheet (length (sheet_for table s p)) ≡ Sheet n = rw zero at is in (eqb-true _ 0 zero, cc)
+      go (inl zero) = let long : Ok (length (sheet_for table s p)) ≡ Ok n = rw zero at is in (eqb-true _ 0 zero, cc)
       go (inr other) =
-          let never : Refused (write_answer table s p room) ≡ Sheet n = rw other at is in
+          let never : Err (write_answer table s p room) ≡ Ok n = rw other at is in
           let zero_one : ◌≡◌ {A = ℕ} 0 1 = cc in absurd (omega arith)
 
-  writes : (buffer : List ℕ) (n : ℕ) → written table s p (length buffer) ≡ Sheet n
+  writes : (buffer : List ℕ) (n : ℕ) → written table s p (length buffer) ≡ Ok n
       → WroteBoard table s p buffer (sheet_left table s p buffer) n
   unfolding sheet_left
   writes buffer n is =
@@ -201,15 +201,13 @@ module _ (table s : List ℕ) (p room : ℕ) (enough : sheet_most ≤ room) wher
           of-board fits (sym (first_passed (table_refusals table) (board_refusals table s p room) taken) ∙ e)
       go (no bad) = of-table (sym (first_given (table_refusals table) (board_refusals table s p room) bad) ∙ e)
 
-  never_refused : written table s p room ≡ Refused 16 → ⊥
+  never_refused : written table s p room ≡ Err 16 → ⊥
   unfolding written
   never_refused is = go (either (eqb (write_answer table s p room) 0))
     where
       go : (eqb (write_answer table s p room) 0 ≡ true) ⊎ (eqb (write_answer table s p room) 0 ≡ false) → ⊥
-      go (inl zero) =
-          let never : Sheet (length (sheet_for table s p)) ≡ Refused 16 = rw zero at is in
-          let zero_one : ◌≡◌ {A = ℕ} 0 1 = cc in omega arith
-      go (inr other) = let same : Refused (write_answer table s p room) ≡ Refused 16 = rw other at is in never_short (cc)
+      go (inl zero) = let never : ◌≡◌ {A = Result ℕ ℕ} (Ok (length (sheet_for table s p))) (Err 16) = rw zero at is in cc
+      go (inr other) = let same : ◌≡◌ {A = Result ℕ ℕ} (Err (write_answer table s p room)) (Err 16) = rw other at is in never_short (cc)
 
 pub reads_back : ReadsBack
 reads_back = record { writes = writes; room = never_refused }

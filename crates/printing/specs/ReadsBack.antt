@@ -1,5 +1,5 @@
 -- Every board written reads as that board.
-use Rattle.std.specs.Prelude.{ℕ, ◌≤◌, ◌<◌, true, List, ◌≡◌, length, take, drop}
+use Rattle.std.specs.Prelude.{Ok, Err, ℕ, ◌≤◌, ◌<◌, true, List, ◌≡◌, length, take, drop}
 use Rattle.base.specs.Sums.{how_many}
 use Rattle.ballot.specs.Table.{item_text}
 use Rattle.header.specs.Header.{items_of}
@@ -8,7 +8,6 @@ use Rattle.sheets.specs.Sheet.{sheet_most, period_on, count_on, text_on, texts_o
 use Rattle.sheets.specs.Found.{handed_out}
 use Rattle.printing.specs.Board.{boards_on, first_board, board_texts}
 use Rattle.printing.specs.Written.{written, sheet_left}
-use Rattle.printing.specs.declared.Written.TheVariants.{Sheet, Refused}
 
 -- the item x of the table is among the items of the sheet
 pub record OnSheet (table sheet : List ℕ) (x : ℕ) : Type 0 where
@@ -38,7 +37,7 @@ pub record WroteBoard (table s : List ℕ) (period : ℕ) (was is : List ℕ) (n
 -- for every table, state, period and buffer
 pub record ReadsBack : Type 0 where
   pub writes : (table s : List ℕ) (period : ℕ) (buffer : List ℕ) (n : ℕ)
-      → written table s period (length buffer) ≡ Sheet n
+      → written table s period (length buffer) ≡ Ok n
       → WroteBoard table s period buffer (sheet_left table s period buffer) n
   -- a buffer with room for every sheet never gets 16
-  pub room : (table s : List ℕ) (period room : ℕ) → sheet_most ≤ room → written table s period room ≡ Refused 16 → ⊥
+  pub room : (table s : List ℕ) (period room : ℕ) → sheet_most ≤ room → written table s period room ≡ Err 16 → ⊥

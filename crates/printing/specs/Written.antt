@@ -1,6 +1,7 @@
 -- What the writer of a sheet answers, and what it leaves in the buffer.
-use Rattle.std.specs.Prelude.{ℕ, not, cond, List, [], ◌∷◌, ◌++◌, ◌≡◌, eqb, leb, ltb, length}
-use Rattle.base.specs.Refusals.{Refusals, state, name, unknown, sheet, numbered, first}
+use Rattle.std.specs.Prelude.{Result, Ok, Err, ℕ, not, cond, List, [], ◌∷◌, ◌++◌, ◌≡◌, eqb, leb, ltb, length}
+use Rattle.base.specs.Refusals.{Refusals, state, name, unknown, sheet, number_of, numbered, first}
+use Rattle.base.specs.declared.refusal.Refusal.{Refusal}
 use Rattle.header.specs.Header.{head_of, periods_of, items_of}
 use Rattle.header.specs.declared.Head.{Head}
 use Rattle.ballot.specs.Table.{table_refusals, refusal}
@@ -10,8 +11,6 @@ use Rattle.valid.specs.StateOk.{state_ok}
 use Rattle.text.specs.Wrote.{over}
 use Rattle.sheets.specs.Made.{sheet_of}
 use Rattle.printing.specs.Board.{boards_on, first_board, board_texts}
-use Rattle.printing.specs.declared.Written.{Written}
-use Rattle.printing.specs.declared.Written.TheVariants.{Sheet, Refused}
 
 module _ (table s : List ℕ) (period : ℕ) where
   -- the sheet of the period's board: its items in table order
@@ -36,9 +35,9 @@ module _ (table s : List ℕ) (period : ℕ) where
   unfoldable pub write_answer : ℕ → ℕ
   write_answer room = first (numbered (write_refusals room))
 
-  -- what is answered: the sheet's length, or the refusal
-  unfoldable pub written : ℕ → Written
-  written room = cond (eqb (write_answer room) 0) (Sheet (length sheet_for)) (Refused (write_answer room))
+  -- what is answered: the sheet's length, or the refusal's number
+  unfoldable pub written : ℕ → Result ℕ ℕ
+  written room = cond (eqb (write_answer room) 0) (Ok (length sheet_for)) (Err (write_answer room))
 
   -- the buffer: its old bytes with the sheet over their start; a refused call alters nothing
   unfoldable pub sheet_left : List ℕ → List ℕ
@@ -51,11 +50,16 @@ pub record Judged (table s : List ℕ) (h : Head) : Type 0 where
   pub ready : Ready h s
 
 -- the number on the report of an answer
-abbrev pub written_number : Written → ℕ
-written_number (Sheet n) = 0
-written_number (Refused r) = r
+abbrev pub written_number : Result ℕ ℕ → ℕ
+written_number (Ok n) = 0
+written_number (Err r) = r
 
 -- the length that is answered; a refusal leaves the one that was there
-abbrev pub written_length : ℕ → Written → ℕ
-written_length old (Sheet n) = n
-written_length old (Refused r) = old
+abbrev pub written_length : ℕ → Result ℕ ℕ → ℕ
+written_length old (Ok n) = n
+written_length old (Err r) = old
+
+-- an answer with the number of its refusal
+abbrev pub in_numbers : Result ℕ Refusal → Result ℕ ℕ
+in_numbers (Ok n) = Ok n
+in_numbers (Err r) = Err (number_of r)

@@ -1,8 +1,8 @@
 -- The report from its parts, and the two ways in which a rehearsal ends.
-use Prim.Native.Nat.{ℕ, ◌^◌, ◌<◌, ◌≤◌}
+use Prim.Native.Nat.{ℕ, ◌≤◌}
 use native.Mathlib.Omega.{arith}
 use mathlib.Core.List.{List}
-use mathlib.Core.Path.{◌≡◌, ap, subst, ◌∙◌}
+use mathlib.Core.Path.{◌≡◌, ap, ◌∙◌}
 use lib.ListN.{length, replicate}
 use borrow.Author.Tests.{ne_eqb}
 use Rattle.header.specs.Header.{head_of, peers_of, threshold_of, honest_count}
@@ -13,10 +13,15 @@ use Rattle.state.specs.Layout.{size}
 use Rattle.state.specs.Contents.{contents, Canon}
 use Rattle.header.specs.declared.Head.{Head}
 use Rattle.engine.specs.Engine.{fresh_state}
-use Rattle.text.specs.Wrote.{over, Wrote}
-use Rattle.text.proofs.Writing.{◌▷◌, renamed}
+use Rattle.text.specs.declared.Printer.{Printer}
+use Rattle.text.specs.Wrote.{Put}
+use Rattle.text.proofs.Puts.{◌▷◌, renamed}
 use Rattle.report.specs.Lines.{refused_line, head_line}
 use Rattle.report.specs.State.{state_lines}
+use Rattle.std.specs.Prelude.{Result, Ok, Err}
+use Rattle.base.specs.declared.refusal.Refusal.{Refusal}
+use Rattle.base.specs.Refusals.{number_of, answer_of}
+use Rattle.base.proofs.Refusals.{refused_ne0}
 use Rattle.rehearsal.specs.Input.{table_in, step_count}
 use Rattle.rehearsal.specs.Rehearsal.{state_at, last_state, report_of, lent_refusal, reported, state_left, report_most}
 use Rattle.rehearsal.specs.Running.{Taken, Made, Ran}
@@ -34,8 +39,8 @@ made T cut head rows =
     record { taken = T; cut = cut; prepared = record { taken = ap refusal cut ∙ T.table; head = head; clashes = all_rows rows } }
 
 -- the steps were run
-module _ {input table : List ℕ} {h : Head} {rows : List ℕ} (M : Made input table h rows) {a b : ℕ} {s mid more : List ℕ}
-    (ran : Ran input (step_count input) s mid a more b) where
+module _ {input table : List ℕ} {h : Head} {rows : List ℕ} (M : Made input table h rows) {s : List ℕ} {mid more : Printer}
+    (ran : Ran input (step_count input) s mid more) where
   pub showable : Canon s × (h.n ≤ 16) × (h.items ≤ 64)
   showable = let R = ready_now M (step_count input) ran.state in (R.canon, R.room.peers, R.room.items)
 
@@ -46,27 +51,26 @@ module _ {input table : List ℕ} {h : Head} {rows : List ℕ} (M : Made input t
   state_shown : state_lines h (contents s) ≡ state_lines (head_of (table_in input)) (contents (state_at input (step_count input)))
   state_shown = rw (M.prepared.head, M.cut, ran.state)
 
-  pub whole_report : {n to : ℕ} {out is : List ℕ} → n ≡ honest_count h → Wrote out 0 (head_line h.n h.t n) mid a
-      → Wrote more b (state_lines h (contents s)) is to → (s ≡ last_state input) × Wrote out 0 (report_of input) is to
+  pub whole_report : {n : ℕ} {out is : Printer} → n ≡ honest_count h → Put out (head_line h.n h.t n) mid
+      → Put more (state_lines h (contents s)) is → (s ≡ last_state input) × Put out (report_of input) is
   unfolding last_state report_of
   whole_report {n} honest first shown = (ran.state, renamed (first_line n honest) first ▷ ran.lines ▷ renamed state_shown shown)
 
--- what `rehearse` promises
-abbrev pub Promised : List ℕ → List ℕ → List ℕ → List ℕ → List ℕ → ℕ → Type 0
-Promised input s out t is r =
-    (r ≡ length (reported input s)) × ((r ≤ report_most) × ((is ≡ over out 0 (reported input s)) × (t ≡ state_left input s)))
+-- the two ways in which a rehearsal ends
+module _ (input s : List ℕ) {t : List ℕ} {out is : Printer} (a : Result Unit Refusal) (judged : answer_of a ≡ lent_refusal input s) where
+  pub refused : (r : Refusal) → a ≡ Err r → Put out (refused_line (number_of r)) is → t ≡ s
+      → Put out (reported input s) is × (t ≡ state_left input s)
+  unfolding reported state_left
+  refused r e w same = rw (← judged, e, ne_eqb (number_of r) 0 (refused_ne0 r)) (w, same)
 
-module _ (input s out : List ℕ) {t is : List ℕ} {to : ℕ} (room : length out < 2 ^ 64) where
-  written : (text : List ℕ) → reported input s ≡ text → Wrote out 0 text is to → t ≡ state_left input s → Promised input s out t is to
-  written text e w left =
-      let small : length text ≤ report_most = subst (λ (u : List ℕ). length u ≤ report_most) e (reported_most input s) in
-      rw e (omega (arith, w.place, small), (omega (arith, w.place, small), (w.bytes room, left)))
+  pub reports : (u : Unit) → a ≡ Ok u → (t ≡ last_state input) × Put out (report_of input) is
+      → Put out (reported input s) is × (t ≡ state_left input s)
+  unfolding reported state_left
+  reports u e p = rw (← judged, e) (p.1, p.0)
 
-  module _ {r : ℕ} (judged : r ≡ lent_refusal input s) where
-    pub refused : (r ≡ 0 → ⊥) → Wrote out 0 (refused_line r) is to → t ≡ s → Promised input s out t is to
-    unfolding reported state_left
-    refused bad w same = written (refused_line r) (rw (← judged, ne_eqb r 0 bad)) w (rw (← judged, ne_eqb r 0 bad) same)
-
-    pub reports : r ≡ 0 → (t ≡ last_state input) × Wrote out 0 (report_of input) is to → Promised input s out t is to
-    unfolding reported state_left
-    reports good p = written (report_of input) (rw (← judged, good)) p.1 (rw (← judged, good) p.0)
+-- the length of what was written from the start of a buffer on
+pub long : (input s : List ℕ) {p q : Printer} → p.at ≡ 0 → Put p (reported input s) q
+    → (q.at ≡ length (reported input s)) × (q.at ≤ report_most)
+long input s e w =
+    let small = reported_most input s in
+    (omega (arith, w.wrote.place, small, e), omega (arith, w.wrote.place, small, e))

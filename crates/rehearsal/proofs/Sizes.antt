@@ -15,8 +15,8 @@ use Rattle.header.specs.Header.{head_of, peers_of, threshold_of, honest_count}
 use Rattle.clash.specs.Clash.{clash_in}
 use Rattle.header.proofs.Fields.{honest_most}
 use Rattle.ballot.proofs.Sound.{sound}
-use Rattle.rules.specs.declared.Call.{Call}
-use Rattle.rules.specs.declared.Call.TheVariants.{Formed, Malformed}
+use Rattle.rules.specs.Form.{Call}
+use Rattle.std.specs.Prelude.{Some, None}
 use Rattle.rules.specs.Table.{Table}
 use Rattle.rules.specs.State.{State}
 use Rattle.rules.specs.Form.{read}
@@ -40,8 +40,8 @@ use Rattle.rehearsal.proofs.States.{state_ready}
 module _ (T : Table) (s : State) where
   reply_small : (c : Call) → reply T s c < 100
   unfolding reply answer
-  reply_small (Formed st) = first_small (rule T s st).refusals
-  reply_small Malformed = omega arith
+  reply_small (Some st) = first_small (rule T s st).refusals
+  reply_small None = omega arith
 
 refusal_small : (input s : List ℕ) → lent_refusal input s < 100
 unfolding input_refusal lent_refusal

@@ -13,8 +13,9 @@ use Rattle.engine.specs.Engine.{step_answer, step_bytes}
 use Rattle.engine.proofs.Calls.{room_of}
 use Rattle.engine.proofs.Start.{fresh_ready}
 use Rattle.engine.proofs.Steps.{step_leaves}
-use Rattle.text.specs.Wrote.{Wrote}
-use Rattle.text.proofs.Writing.{each_none, each_more, renamed}
+use Rattle.text.specs.declared.Printer.{Printer}
+use Rattle.text.specs.Wrote.{Put}
+use Rattle.text.proofs.Puts.{each_none, each_more, renamed}
 use Rattle.report.specs.Lines.{step_line}
 use Rattle.rehearsal.specs.Input.{input_most, table_in, step_count, call_at}
 use Rattle.rehearsal.specs.Rehearsal.{state_at, step_at}
@@ -42,11 +43,11 @@ module _ {input table : List ℕ} {h : Head} {rows : List ℕ} (M : Made input t
   ready_now = subst₂ (λ g u. Ready g u) (sym (M.prepared.head ∙ ap head_of M.cut)) (sym now) (state_ready input M.taken k)
 
   -- one step, and its line
-  pub one_ran : {step was is t : List ℕ} {at to a : ℕ} → step ≡ call_at input k
-      → (a ≡ step_answer table s step) × (t ≡ step_bytes table s step) → Wrote was at (step_line (k + 1) a) is to
-      → RanOne input k t was at is to
+  pub one_ran : {step t : List ℕ} {was is : Printer} {a : ℕ} → step ≡ call_at input k
+      → (a ≡ step_answer table s step) × (t ≡ step_bytes table s step) → Put was (step_line (k + 1) a) is
+      → RanOne input k t was is
   unfolding state_at step_at
-  one_ran {step} {was} {is} {t} {at} {to} {a} e done line =
+  one_ran {step} {t} {was} {is} {a} e done line =
       let same : (f : List ℕ → List ℕ → List ℕ → ℕ)
       → f table s step ≡ f (table_in input) (state_at input k) (call_at input k) = λ f. rw (M.cut, now, e) in
       let bytes : step_bytes table s step ≡ step_bytes (table_in input) (state_at input k) (call_at input k) = rw (M.cut, now, e) in
@@ -55,16 +56,13 @@ module _ {input table : List ℕ} {h : Head} {rows : List ℕ} (M : Made input t
         line = renamed (ap (step_line (k + 1)) (done.0 ∙ same step_answer)) line;
       }
 
--- the loop: none yet, one more, all
-pub none_ran : {input s out : List ℕ} {at : ℕ} → s ≡ state_at input 0 → Ran input 0 s out at out at
+-- the loop: none yet, one more
+pub none_ran : {input s : List ℕ} {out : Printer} → s ≡ state_at input 0 → Ran input 0 s out out
 none_ran e = record { state = e; lines = each_none _ }
 
-pub more_ran : {input s t was mid is : List ℕ} {at to next k : ℕ} → Ran input k s was at mid to → RanOne input k t mid to is next
-    → Ran input (k + 1) t was at is next
-more_ran {input} {s} {t} {was} {mid} {is} {at} {to} {next} {k} all one = record {
-  state = one.state;
-  lines = each_more (step_at input) k all.lines one.line;
-}
+pub more_ran : {input s t : List ℕ} {was mid is : Printer} {k : ℕ} → Ran input k s was mid → RanOne input k t mid is
+    → Ran input (k + 1) t was is
+more_ran {input} {s} {t} {was} {mid} {is} {k} all one = record { state = one.state; lines = each_more (step_at input) k all.lines one.line }
 
-pub all_ran : {input s was is : List ℕ} {at to k n m : ℕ} → Ran input k s was at is to → k ≤ n → n ≤ k → n ≡ m → Ran input m s was at is to
-all_ran {input} {s} {was} {is} {at} {to} {k} all p q e = subst (λ (i : ℕ). Ran input i s was at is to) (le_antisymm p q ∙ e) all
+pub all_ran : {input s : List ℕ} {was is : Printer} {k n m : ℕ} → Ran input k s was is → k ≤ n → n ≤ k → n ≡ m → Ran input m s was is
+all_ran {input} {s} {was} {is} {k} all p q e = subst (λ (i : ℕ). Ran input i s was is) (le_antisymm p q ∙ e) all

@@ -38,14 +38,6 @@ module _ (input : List ℕ) (zero : input_refusal input ≡ 0) where
 -- the refusals of a rehearsal in a lent state, one after the other
 
 module _ (input s : List ℕ) {r : ℕ} (judged : r ≡ input_refusal input) where
-  pub input_refused : (r ≡ 0 → ⊥) → r ≡ lent_refusal input s
-  unfolding lent_refusal
-  input_refused bad = rw (sym judged, ne_eqb r 0 bad)
-
-  pub length-refused : r ≡ 0 → (length s ≡ size → ⊥) → 14 ≡ lent_refusal input s
-  unfolding lent_refusal
-  length-refused good wrong = rw (sym judged, good, ne_eqb (length s) size wrong)
-
   pub none-refused : r ≡ 0 → length s ≡ size → 0 ≡ lent_refusal input s
   unfolding lent_refusal
   none-refused good long = rw (sym judged, good, eq-eqb (length s) size long)

@@ -2,7 +2,8 @@
 use Rattle.std.specs.Prelude.{ℕ, ◌+◌, ◌≤◌, List, ◌≡◌, length}
 use Rattle.ballot.specs.Table.{refusal}
 use Rattle.header.specs.declared.Head.{Head}
-use Rattle.text.specs.Wrote.{Wrote, each}
+use Rattle.text.specs.declared.Printer.{Printer}
+use Rattle.text.specs.Wrote.{Put, each}
 use Rattle.engine.specs.Engine.{Prepared}
 use Rattle.rehearsal.specs.Input.{input_most, table_end, table_in}
 use Rattle.rehearsal.specs.Rehearsal.{state_at, step_at}
@@ -19,12 +20,12 @@ pub record Made (input table : List ℕ) (h : Head) (rows : List ℕ) : Type 0 w
   pub cut : table ≡ table_in input
   pub prepared : Prepared table h rows
 
--- the first k steps were run, and their lines written: s is the state, and is are the bytes of the output
-pub record Ran (input : List ℕ) (k : ℕ) (s was : List ℕ) (at : ℕ) (is : List ℕ) (to : ℕ) : Type 0 where
+-- the first k steps were run, and their lines written: s is the state
+pub record Ran (input : List ℕ) (k : ℕ) (s : List ℕ) (was is : Printer) : Type 0 where
   pub state : s ≡ state_at input k
-  pub lines : Wrote was at (each (step_at input) k) is to
+  pub lines : Put was (each (step_at input) k) is
 
 -- step k was run, and its line written
-pub record RanOne (input : List ℕ) (k : ℕ) (s was : List ℕ) (at : ℕ) (is : List ℕ) (to : ℕ) : Type 0 where
+pub record RanOne (input : List ℕ) (k : ℕ) (s : List ℕ) (was is : Printer) : Type 0 where
   pub state : s ≡ state_at input (k + 1)
-  pub line : Wrote was at (step_at input k) is to
+  pub line : Put was (step_at input k) is

@@ -1,9 +1,11 @@
 // The input: where its table ends, the first refusal, and its steps.
 ghost use Rattle.std.specs.Prelude.{◌≡◌, ◌≤◌, length};
+ghost use Rattle.base.specs.Refusals.{answer_of};
 ghost use Rattle.rehearsal.specs.Input.{input_most, table_end, table_in, table_there, input_refusal, step_count, call_at};
 ghost use Rattle.rehearsal.specs.Rehearsal.{lent_refusal};
 
 use crate::INPUT_MOST;
+use base::refusal::Refusal;
 use state::layout::SIZE;
 
 // The bytes of a step.
@@ -13,7 +15,7 @@ const STEP_SIZE: usize = 13;
 pub fn table_end(input: &[u8]) -> usize
     ensures { result ≡ table_end input.now }
 {
-    pairs::last_end(input, header::header_size(input), header::items(input))
+    ballot::pairs_of(input).last_end()
 }
 
 // The table, as the part of the input that it is.
@@ -27,40 +29,36 @@ pub fn table_in(input: &[u8]) -> &[u8]
 fn table_there(input: &[u8]) -> bool
     ensures { result ≡ table_there input.now }
 {
-    if !pairs::pairs_fit(input, header::header_size(input), header::items(input)) {
-        return false;
-    }
-    table_end(input) <= input.len()
+    ballot::pairs_of(input).fit() && table_end(input) <= input.len()
 }
 
-// The first refusal that applies, 15 or 1 to 4; 0 where none does.
-pub fn check_input(input: &[u8]) -> u8
-    ensures { result ≡ input_refusal input.now }
+// The first refusal that applies, 15 or 1 to 4.
+#[tactic(auto, unfolding(crate::specs::Input::input_refusal, ballot::specs::Table::refusal, base::specs::Refusals::first))]
+pub fn check_input(input: &[u8]) -> Result<(), Refusal>
+    ensures { answer_of result ≡ input_refusal input.now }
 {
     if INPUT_MOST < input.len() {
-        return 15;
+        return Err(Refusal::Input);
     }
     if !header::header_ok(input) {
-        return 1;
+        return Err(Refusal::Header);
     }
     if !table_there(input) {
-        return 2;
+        return Err(Refusal::Pairs);
     }
     ballot::check_table(table_in(input))
 }
 
-// The first refusal of a rehearsal in a lent state: of the input, then 14 for the state's length; 0 where none applies.
-pub fn check_lent(input: &[u8], s: &[u8]) -> u8
-    ensures { result ≡ lent_refusal input.now s.now }
+// The first refusal of a rehearsal in a lent state: of the input, then 14 for the state's length.
+#[tactic(auto, using(base::proofs::Refusals::refused_ne0), unfolding(crate::specs::Rehearsal::lent_refusal))]
+pub fn check_lent(input: &[u8], s: &[u8]) -> Result<(), Refusal>
+    ensures { answer_of result ≡ lent_refusal input.now s.now }
 {
-    let refusal = check_input(input);
-    if refusal != 0 {
-        return refusal;
-    }
+    check_input(input)?;
     if s.len() != SIZE {
-        return 14;
+        return Err(Refusal::State);
     }
-    0
+    Ok(())
 }
 
 // How many steps there are: a short tail is one.

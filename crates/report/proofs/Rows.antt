@@ -21,20 +21,21 @@ use Rattle.state.specs.Sets.{signers_of}
 use Rattle.sets.proofs.Words.{signers-out}
 use Rattle.sets.specs.Database.{row_of, database_of}
 use Rattle.header.specs.declared.Head.{Head}
-use Rattle.text.specs.Wrote.{Wrote, each}
-use Rattle.text.proofs.Writing.{none, renamed}
+use Rattle.text.specs.declared.Printer.{Printer}
+use Rattle.text.specs.Wrote.{Put, each}
+use Rattle.text.proofs.Puts.{none, renamed}
 use Rattle.report.specs.Lines.{db_line}
 use Rattle.report.specs.State.{db_item, db_period}
 use Rattle.report.specs.Rows.{set_line, row_item, row_lines, row_in}
 
 -- a set: a line where it has members
 
-module _ (j p x : ℕ) (set : Signers) {l : List ℕ} {a n : ℕ} (e : n ≡ count_in set.0) where
-  pub some_signers : {l₁ : List ℕ} {a₁ : ℕ} → 0 < n → Wrote l a (db_line j p x n) l₁ a₁ → Wrote l a (set_line j p x set) l₁ a₁
+module _ (j p x : ℕ) (set : Signers) {u : Printer} {n : ℕ} (e : n ≡ count_in set.0) where
+  pub some_signers : {w : Printer} → 0 < n → Put u (db_line j p x n) w → Put u (set_line j p x set) w
   unfolding set_line
   some_signers some w = rw (← e, lt-ltb 0 n some) w
 
-  pub no_signers : n ≤ 0 → Wrote l a (set_line j p x set) l a
+  pub no_signers : n ≤ 0 → Put u (set_line j p x set) u
   unfolding set_line
   no_signers few = rw (← e, le-ltb 0 n few) none
 
@@ -82,9 +83,9 @@ items_same h c j p few =
     each_same (λ x. set_line j p x (get_or (tab items (signers_of c j p)) x (record { 0 = 0 }))) (db_item c j p) h.items
     (λ x l. set_same c j p x _ (get_or-tab items (signers_of c j p) x (record { 0 = 0 }) (omega arith)))
 
-pub period_shown : (h : Head) (s : List ℕ) (j p : ℕ) (d : List (List Signers)) (r : List Signers) {l l₁ : List ℕ} {a a₁ : ℕ}
+pub period_shown : (h : Head) (s : List ℕ) (j p : ℕ) (d : List (List Signers)) (r : List Signers) {u w : Printer}
     → h.items ≤ items
-    → d ≡ database_of (contents s) j → r ≡ row_in d p → Wrote l a (row_lines h r j p) l₁ a₁ → Wrote l a (db_period h (contents s) j p) l₁ a₁
+    → d ≡ database_of (contents s) j → r ≡ row_in d p → Put u (row_lines h r j p) w → Put u (db_period h (contents s) j p) w
 period_shown h s j p d r few e q w =
     renamed (ap (λ (x : List Signers). row_lines h x j p) (q ∙ ap (λ (x : List (List Signers)). row_in x p) e ∙ row_same s j p) ∙ items_same h
     (contents s) j p few) w

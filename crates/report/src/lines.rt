@@ -1,109 +1,106 @@
 // A line of each kind.
 ghost use Rattle.std.specs.Prelude.{◌<◌, ◌≤◌};
-ghost use Rattle.text.specs.Wrote.{Wrote, each};
+ghost use Rattle.base.specs.Refusals.{number_of};
+ghost use Rattle.text.specs.Wrote.{Put, each};
 ghost use Rattle.report.specs.Lines.{refused_line, head_line, step_line, db_line, receipt_line, board_item, board_line};
 ghost use Rattle.report.specs.Lines.{totals_line};
 
+use base::refusal::Refusal;
 use bits::has_bit;
 use figures::Totals;
-use text::{put_byte, put_decimal, put_field, put_small, put_word};
+use text::Printer;
 
 // The line of an input that is refused.
-pub fn put_refused(out: &mut [u8], at: usize, r: u8) -> usize
-    ensures { Wrote out.old at (refused_line r) out.new result }
+pub fn put_refused(out: &mut Printer, r: Refusal)
+    ensures { Put out.old (refused_line (number_of r)) out.new }
 {
-    let a = put_word(out, at, b"refused");
-    let b = put_small(out, a, r);
-    put_byte(out, b, b'\n')
+    out.word(b"refused");
+    out.field(r.number() as u64);
+    out.byte(b'\n');
 }
 
 // The first line: n, t and h.
-pub fn put_head(out: &mut [u8], at: usize, n: u8, t: u8, h: u8) -> usize
-    ensures { Wrote out.old at (head_line n t h) out.new result }
+pub fn put_head(out: &mut Printer, n: u8, t: u8, h: u8)
+    ensures { Put out.old (head_line n t h) out.new }
 {
-    let a = put_word(out, at, b"peers");
-    let b = put_small(out, a, n);
-    let c = put_word(out, b, b" threshold");
-    let d = put_small(out, c, t);
-    let e = put_word(out, d, b" honest");
-    let f = put_small(out, e, h);
-    put_byte(out, f, b'\n')
+    out.word(b"peers");
+    out.field(n as u64);
+    out.word(b" threshold");
+    out.field(t as u64);
+    out.word(b" honest");
+    out.field(h as u64);
+    out.byte(b'\n');
 }
 
 // The line of step k.
-pub fn put_step(out: &mut [u8], at: usize, k: u64, answer: u8) -> usize
-    ensures { Wrote out.old at (step_line k answer) out.new result }
+pub fn put_step(out: &mut Printer, k: u64, answer: u8)
+    ensures { Put out.old (step_line k answer) out.new }
 {
-    let a = put_decimal(out, at, k);
-    let b = put_small(out, a, answer);
-    put_byte(out, b, b'\n')
+    out.decimal(k);
+    out.field(answer as u64);
+    out.byte(b'\n');
 }
 
 // The line of an item in a peer's database.
-pub fn put_db(out: &mut [u8], at: usize, j: u8, p: u8, x: u8, signers: u32) -> usize
-    ensures { Wrote out.old at (db_line j p x signers) out.new result }
+pub fn put_db(out: &mut Printer, j: u8, p: u8, x: u8, signers: u32)
+    ensures { Put out.old (db_line j p x signers) out.new }
 {
-    let a = put_word(out, at, b"db");
-    let b = put_small(out, a, j);
-    let c = put_small(out, b, p);
-    let d = put_small(out, c, x);
-    let e = put_field(out, d, signers as u64);
-    put_byte(out, e, b'\n')
+    out.word(b"db");
+    out.field(j as u64);
+    out.field(p as u64);
+    out.field(x as u64);
+    out.field(signers as u64);
+    out.byte(b'\n');
 }
 
 // The line of a receipt.
-pub fn put_receipt(out: &mut [u8], at: usize, p: u8, x: u8) -> usize
-    ensures { Wrote out.old at (receipt_line p x) out.new result }
+pub fn put_receipt(out: &mut Printer, p: u8, x: u8)
+    ensures { Put out.old (receipt_line p x) out.new }
 {
-    let a = put_word(out, at, b"receipt");
-    let b = put_small(out, a, p);
-    let c = put_small(out, b, x);
-    put_byte(out, c, b'\n')
+    out.word(b"receipt");
+    out.field(p as u64);
+    out.field(x as u64);
+    out.byte(b'\n');
 }
 
 // A blank and item x, if the board has it.
-fn put_item(out: &mut [u8], at: usize, board: u64, x: u8) -> usize
+fn put_item(out: &mut Printer, board: u64, x: u8)
     requires { x < 64 }
-    ensures { Wrote out.old at (board_item board x) out.new result }
+    ensures { Put out.old (board_item board x) out.new }
 {
     if has_bit(board, x) {
-        return put_small(out, at, x);
+        out.field(x as u64);
     }
-    at
 }
 
 // The items of a board, of m that there are.
-fn put_items(out: &mut [u8], at: usize, board: u64, m: u8) -> usize
+fn put_items(out: &mut Printer, board: u64, m: u8)
     requires { m ≤ 64 }
-    ensures { Wrote out.old at (each (board_item board) m) out.new result }
+    ensures { Put out.old (each (board_item board) m) out.new }
 {
-    let mut to = at;
-    let mut x: u8 = 0;
-    while x < m {
-        to = put_item(out, to, board, x);
-        x += 1;
+    for x in 0..m {
+        put_item(out, board, x);
     }
-    to
 }
 
 // The line of a board.
-pub fn put_board(out: &mut [u8], at: usize, m: u8, p: u8, board: u64) -> usize
+pub fn put_board(out: &mut Printer, m: u8, p: u8, board: u64)
     requires { m ≤ 64 }
-    ensures { Wrote out.old at (board_line m p board) out.new result }
+    ensures { Put out.old (board_line m p board) out.new }
 {
-    let a = put_word(out, at, b"board");
-    let b = put_small(out, a, p);
-    let c = put_items(out, b, board, m);
-    put_byte(out, c, b'\n')
+    out.word(b"board");
+    out.field(p as u64);
+    put_items(out, board, m);
+    out.byte(b'\n');
 }
 
 // The line of the totals.
-pub fn put_totals(out: &mut [u8], at: usize, f: Totals) -> usize
-    ensures { Wrote out.old at (totals_line f) out.new result }
+pub fn put_totals(out: &mut Printer, f: Totals)
+    ensures { Put out.old (totals_line f) out.new }
 {
-    let a = put_word(out, at, b"totals");
-    let b = put_field(out, a, f.posts as u64);
-    let c = put_field(out, b, f.receipts as u64);
-    let d = put_field(out, c, f.items as u64);
-    put_byte(out, d, b'\n')
+    out.word(b"totals");
+    out.field(f.posts as u64);
+    out.field(f.receipts as u64);
+    out.field(f.items as u64);
+    out.byte(b'\n');
 }

@@ -1,7 +1,7 @@
 // What the report shows of a state: databases, receipts, boards, totals, and its last line.
 ghost use Rattle.std.specs.Prelude.{◌≡◌, ◌+◌, ◌<◌, ◌≤◌};
 ghost use Rattle.state.specs.Contents.{contents, Canon};
-ghost use Rattle.text.specs.Wrote.{Wrote};
+ghost use Rattle.text.specs.Wrote.{Put};
 ghost use Rattle.report.specs.Rows.{set_line, row_lines, row_in};
 ghost use Rattle.report.specs.State.{db_peer, db_lines, receipt_item, receipt_period, receipt_lines};
 ghost use Rattle.report.specs.State.{entry_line, bag_line, board_lines, foot, state_lines};
@@ -15,31 +15,26 @@ use rules::Entry;
 use sets::database::database;
 use state::facts::is_there;
 use state::{Fact, layout};
-use text::put_word;
+use text::Printer;
 
 // The line of item x, if its set is not empty.
-fn put_db_item(out: &mut [u8], at: usize, set: Signers, j: u8, p: u8, x: u8) -> usize
-    ensures { Wrote out.old at (set_line j p x set) out.new result }
+fn put_db_item(out: &mut Printer, set: Signers, j: u8, p: u8, x: u8)
+    ensures { Put out.old (set_line j p x set) out.new }
 {
     let signers = signer_count(set);
     if 0 < signers {
-        return put_db(out, at, j, p, x, signers);
+        put_db(out, j, p, x, signers);
     }
-    at
 }
 
 // One period of a peer's database.
-fn put_db_period(out: &mut [u8], at: usize, sets: [Signers; 64], h: Head, j: u8, p: u8) -> usize
+fn put_db_period(out: &mut Printer, sets: [Signers; 64], h: Head, j: u8, p: u8)
     requires { h.items ≤ 64 }
-    ensures { Wrote out.old at (row_lines h sets j p) out.new result }
+    ensures { Put out.old (row_lines h sets j p) out.new }
 {
-    let mut to = at;
-    let mut x: u8 = 0;
-    while x < h.items {
-        to = put_db_item(out, to, sets[x as usize], j, p, x);
-        x += 1;
+    for x in 0..h.items {
+        put_db_item(out, sets[x as usize], j, p, x);
     }
-    to
 }
 
 // The sets of period p; those of a period for which there is no room are empty.
@@ -54,125 +49,100 @@ fn row_in(d: [[Signers; 64]; 8], p: u8) -> [Signers; 64]
 }
 
 // The database of peer k + 1.
-fn put_db_peer(out: &mut [u8], at: usize, s: &[u8], h: Head, k: u8) -> usize
+fn put_db_peer(out: &mut Printer, s: &[u8], h: Head, k: u8)
     requires { Canon s.now × (k < 16) × (h.items ≤ 64) }
-    ensures { Wrote out.old at (db_peer h (contents s.now) k) out.new result }
+    ensures { Put out.old (db_peer h (contents s.now) k) out.new }
 {
     let j = k + 1;
     let d = database(s, j);
-    let mut to = at;
-    let mut p: u8 = 0;
-    while p < h.periods {
-        to = put_db_period(out, to, row_in(d, p), h, j, p);
-        p += 1;
+    for p in 0..h.periods {
+        put_db_period(out, row_in(d, p), h, j, p);
     }
-    to
 }
 
 // The databases of all peers.
-fn put_dbs(out: &mut [u8], at: usize, s: &[u8], h: Head) -> usize
+fn put_dbs(out: &mut Printer, s: &[u8], h: Head)
     requires { Canon s.now × (h.n ≤ 16) × (h.items ≤ 64) }
-    ensures { Wrote out.old at (db_lines h (contents s.now)) out.new result }
+    ensures { Put out.old (db_lines h (contents s.now)) out.new }
 {
-    let mut to = at;
-    let mut k: u8 = 0;
-    while k < h.n {
-        to = put_db_peer(out, to, s, h, k);
-        k += 1;
+    for k in 0..h.n {
+        put_db_peer(out, s, h, k);
     }
-    to
 }
 
 // The line of item x, if there is a receipt.
-fn put_receipt_item(out: &mut [u8], at: usize, s: &[u8], p: u8, x: u8) -> usize
+fn put_receipt_item(out: &mut Printer, s: &[u8], p: u8, x: u8)
     requires { Canon s.now }
-    ensures { Wrote out.old at (receipt_item (contents s.now) p x) out.new result }
+    ensures { Put out.old (receipt_item (contents s.now) p x) out.new }
 {
     if is_there(s, Fact::Receipted(p, x)) {
-        return put_receipt(out, at, p, x);
+        put_receipt(out, p, x);
     }
-    at
 }
 
 // The receipts of one period.
-fn put_receipt_period(out: &mut [u8], at: usize, s: &[u8], h: Head, p: u8) -> usize
+fn put_receipt_period(out: &mut Printer, s: &[u8], h: Head, p: u8)
     requires { Canon s.now }
-    ensures { Wrote out.old at (receipt_period h (contents s.now) p)
-        out.new result }
+    ensures { Put out.old (receipt_period h (contents s.now) p) out.new }
 {
-    let mut to = at;
-    let mut x: u8 = 0;
-    while x < h.items {
-        to = put_receipt_item(out, to, s, p, x);
-        x += 1;
+    for x in 0..h.items {
+        put_receipt_item(out, s, p, x);
     }
-    to
 }
 
 // The receipts of all periods.
-fn put_receipts(out: &mut [u8], at: usize, s: &[u8], h: Head) -> usize
+fn put_receipts(out: &mut Printer, s: &[u8], h: Head)
     requires { Canon s.now }
-    ensures { Wrote out.old at (receipt_lines h (contents s.now)) out.new result }
+    ensures { Put out.old (receipt_lines h (contents s.now)) out.new }
 {
-    let mut to = at;
-    let mut p: u8 = 0;
-    while p < h.periods {
-        to = put_receipt_period(out, to, s, h, p);
-        p += 1;
+    for p in 0..h.periods {
+        put_receipt_period(out, s, h, p);
     }
-    to
 }
 
 // The line of an entry, if it is a board.
-fn put_entry(out: &mut [u8], at: usize, h: Head, x: Entry) -> usize
+fn put_entry(out: &mut Printer, h: Head, x: Entry)
     requires { h.items ≤ 64 }
-    ensures { Wrote out.old at (entry_line h x) out.new result }
+    ensures { Put out.old (entry_line h x) out.new }
 {
-    match x {
-        Entry::Hash(_, _, _) => at,
-        Entry::Backing(_, _, _) => at,
-        Entry::Board(p, board) => put_board(out, at, h.items, p, board),
+    if let Entry::Board(p, board) = x {
+        put_board(out, h.items, p, board);
     }
 }
 
 // The line of entry e of the bag, if it is a board.
-fn put_bag_entry(out: &mut [u8], at: usize, s: &[u8], h: Head, e: usize) -> usize
+fn put_bag_entry(out: &mut Printer, s: &[u8], h: Head, e: usize)
     requires { Canon s.now × (h.items ≤ 64) }
-    ensures { Wrote out.old at (bag_line h (contents s.now) e) out.new result }
+    ensures { Put out.old (bag_line h (contents s.now) e) out.new }
 {
-    put_entry(out, at, h, entry_at(s, e))
+    put_entry(out, h, entry_at(s, e));
 }
 
 // The boards, in the bag's order.
-fn put_boards(out: &mut [u8], at: usize, s: &[u8], h: Head) -> usize
+fn put_boards(out: &mut Printer, s: &[u8], h: Head)
     requires { Canon s.now × (h.items ≤ 64) }
-    ensures { Wrote out.old at (board_lines h (contents s.now)) out.new result }
+    ensures { Put out.old (board_lines h (contents s.now)) out.new }
 {
-    let n = bag_len(s);
-    let mut to = at;
-    let mut e = 0;
-    while e < n {
-        to = put_bag_entry(out, to, s, h, e);
-        e += 1;
+    for e in 0..bag_len(s) {
+        put_bag_entry(out, s, h, e);
     }
-    to
 }
 
 // The report's last two lines.
-fn put_foot(out: &mut [u8], at: usize, f: Totals) -> usize
-    ensures { Wrote out.old at (foot f) out.new result }
+fn put_foot(out: &mut Printer, f: Totals)
+    ensures { Put out.old (foot f) out.new }
 {
-    let to = put_totals(out, at, f);
-    put_word(out, to, b"end\n")
+    put_totals(out, f);
+    out.word(b"end\n");
 }
 
 // The report from its databases to its end.
-pub fn put_state(out: &mut [u8], at: usize, s: &[u8], h: Head) -> usize
+pub fn put_state(out: &mut Printer, s: &[u8], h: Head)
     requires { Canon s.now × (h.n ≤ 16) × (h.items ≤ 64) }
-    ensures { Wrote out.old at (state_lines h (contents s.now)) out.new result }
+    ensures { Put out.old (state_lines h (contents s.now)) out.new }
 {
-    let a = put_dbs(out, at, s, h);
-    let b = put_receipts(out, a, s, h);
-    let c = put_boards(out, b, s, h);
-    put_foot(out, c, figures::count(s, h))
+    put_dbs(out, s, h);
+    put_receipts(out, s, h);
+    put_boards(out, s, h);
+    put_foot(out, figures::count(s, h));
 }

@@ -2,7 +2,7 @@
 use Prim.Native.Nat.{ℕ}
 use mathlib.Core.List.{List, [], ◌∷◌}
 use mathlib.Core.Path.{◌≡◌, refl, ap, ap₂, fun_ext, ◌∙◌}
-use Rattle.rules.specs.declared.Call.{Call}
+use Rattle.rules.specs.Form.{Call}
 use Rattle.rules.specs.Table.{Table}
 use Rattle.rules.specs.State.{State, fresh}
 use Rattle.rules.specs.Form.{read}

@@ -9,7 +9,8 @@ use Rattle.rules.specs.Bag.{is_hash, is_backing, entry_at, period_of, board_of, 
 use Rattle.rules.specs.State.{State}
 use Rattle.rules.specs.Backed.{unbacked}
 use Rattle.rules.specs.Rules.{answer, board_by, backers, no_peer, no_period, no_item, no_board, none_open, not_closed, given_before, unposted}
-use Rattle.rules.specs.Fields.{Fields, fields}
+use Rattle.rules.specs.declared.Fields.{Fields}
+use Rattle.rules.specs.Fields.{fields}
 
 abbrev pub one_of : ℕ → List ℕ → Bool
 one_of op [] = false

@@ -1,15 +1,8 @@
 -- The fields of a step, as document 01 lists them: op, peer, other, period, item (also entry number), board.
 use Rattle.std.specs.Prelude.{ℕ}
+use Rattle.rules.specs.declared.Fields.{Fields}
 use Rattle.rules.specs.declared.Step.{Step}
 use Rattle.rules.specs.declared.Step.TheVariants.{Post, Hand, Sign, Take, Share, Receipt, Close, Fetch, SendHash, Hear, Back, Publish, FalseSignature, FalseShare, FalseHash, FalseBacking, Down, Up, ClearHashes}
-
-pub record Fields : Type 0 where
-  pub op : ℕ
-  pub peer : ℕ
-  pub other : ℕ
-  pub period : ℕ
-  pub item : ℕ
-  pub board : ℕ
 
 abbrev pub of : ℕ → ℕ → ℕ → ℕ → ℕ → ℕ → Fields
 of op j k p x B = record { op = op; peer = j; other = k; period = p; item = x; board = B }

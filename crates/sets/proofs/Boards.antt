@@ -13,7 +13,7 @@ use Rattle.header.specs.Quorum.{reaches}
 use Rattle.state.specs.Layout.{items}
 use Rattle.state.specs.Contents.{Contents}
 use Rattle.state.specs.Sets.{signers_of}
-use Rattle.sets.specs.Database.{row_of, on_board, peer_board}
+use Rattle.sets.specs.Database.{row_of, on_board}
 use Rattle.base.proofs.Tab.{get_or-tab}
 
 abbrev set : List Signers → ℕ → Signers
@@ -41,7 +41,3 @@ module _ (h : Head) (c : Contents) (j p : ℕ) where
       e
       ∙ ap₂ (λ (a : ℕ) (z : Bool). a + digit z * 2 ^ i) so (row-reaches i sets row (omega arith) y-is)
       ∙ sym (pack_more i (on_board h c j p))
-
-  pub board-end : (m i b : ℕ) → m ≡ h.items → i ≤ m → m ≤ i → b ≡ pack i (on_board h c j p) → b ≡ peer_board h c j p
-  unfolding peer_board
-  board-end m i b is l k e = e ∙ ap (λ (n : ℕ). pack n (on_board h c j p)) (omega arith)

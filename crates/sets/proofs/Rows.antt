@@ -1,10 +1,10 @@
 -- A row of signer sets added item by item, and that the other's row adds what a fetch is to add.
-use Prim.Native.Nat.{ℕ, ◌+◌, ◌-◌, ◌<◌, ◌≤◌}
+use Prim.Native.Nat.{ℕ, ◌+◌, ◌-◌, ◌<◌}
 use native.Mathlib.Decide.{ℕ_discrete}
 use native.Mathlib.Omega.{arith}
 use mathlib.Core.Bool.{Bool, true, false, ◌&&◌, ◌||◌, or-false}
 use mathlib.Core.List.{List}
-use mathlib.Core.Path.{◌≡◌, refl, sym, ap, subst, fun_ext, ◌∙◌}
+use mathlib.Core.Path.{◌≡◌, refl, sym, ap, fun_ext, ◌∙◌}
 use mathlib.Core.Logic.{◌⊎◌, inl, inr}
 use lib.Dec.{eqb, ltb}
 use lib.ListN.{get_or}
@@ -102,11 +102,6 @@ row_more s t c j p n sets h k =
           ∙ ap (adding (known_to j p (on_item n (set sets n)))) h.says
           ∙ adding_both _ _ _ c (known_both j p (on_item n (set sets n)) (on_row sets n) (on_row sets (n + 1)) (row_step sets n));
     }
-
-pub row-end : (s : List ℕ) (c : Contents) (j p n : ℕ) (sets : List Signers) → n ≤ items → items ≤ n
-    → Holds s (adding (known_to j p (on_row sets n)) c)
-    → Holds s (adding (known_to j p (on_row sets items)) c)
-row-end s c j p n sets l m h = subst (λ (k : ℕ). Holds s (adding (known_to j p (on_row sets k)) c)) (omega arith) h
 
 -- the other's row has what the other's database has
 

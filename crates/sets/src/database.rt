@@ -9,7 +9,7 @@ ghost use Rattle.sets.specs.Database.{row_of, database_of, on_row, peer_board};
 ghost use Rattle.state.specs.Sets.{fetched};
 
 use crate::whole::{add_signers, signers_of};
-use header::quorum::signers_reach;
+use header::quorum::reaches;
 use header::{Head, Signers};
 use state::layout;
 
@@ -19,10 +19,8 @@ pub fn row(s: &[u8], j: u8, p: u8) -> [Signers; 64]
     ensures { result ≡ row_of (contents s.now) j p }
 {
     let mut r = [Signers(0); 64];
-    let mut i: usize = 0;
-    while i < layout::ITEMS {
+    for i in 0..layout::ITEMS {
         r[i] = signers_of(s, j, p, i as u8);
-        i += 1;
     }
     r
 }
@@ -33,10 +31,8 @@ pub fn database(s: &[u8], j: u8) -> [[Signers; 64]; 8]
     ensures { result ≡ database_of (contents s.now) j }
 {
     let mut d = [[Signers(0); 64]; 8];
-    let mut p: usize = 0;
-    while p < layout::PERIODS {
+    for p in 0..layout::PERIODS {
         d[p] = row(s, j, p as u8);
-        p += 1;
     }
     d
 }
@@ -46,10 +42,8 @@ pub fn add_row(s: &mut [u8], j: u8, p: u8, sets: [Signers; 64])
     requires { Canon s.old × Row j p }
     ensures { Holds s.new (adding (known_to j p (on_row sets items)) (contents s.old)) }
 {
-    let mut i: usize = 0;
-    while i < layout::ITEMS {
+    for i in 0..layout::ITEMS {
         add_signers(s, j, p, i as u8, sets[i]);
-        i += 1;
     }
 }
 
@@ -76,12 +70,9 @@ pub fn board_of(s: &[u8], h: Head, j: u8, p: u8) -> u64
     ensures { result ≡ peer_board h (contents s.now) j p }
 {
     let sets = row(s, j, p);
-    let m = h.items;
     let mut b: u64 = 0;
-    let mut i: u8 = 0;
-    while i < m {
-        b = with_item(b, i, signers_reach(h, sets[i as usize]));
-        i += 1;
+    for i in 0..h.items {
+        b = with_item(b, i, reaches(h, sets[i as usize]));
     }
     b
 }

@@ -3,7 +3,7 @@ use mathlib.Core.Path.{refl}
 use Rattle.base.specs.Bytes.{number_at, part, same_bytes}
 use Rattle.base.specs.Below.{every}
 use Rattle.base.specs.Tab.{tab}
-use Rattle.base.specs.Refusals.{first}
+use Rattle.base.specs.Refusals.{first, judged}
 use Rattle.pairs.specs.Pairs.{end_before, starts_at_end, pairs_fit, pairs_ok}
 use Rattle.twins.specs.Twins.{differ, new_at, twinless}
 use Rattle.ballot.specs.Item.{read_kind, read_item, is_item, item_at, all_items}
@@ -14,7 +14,7 @@ use Rattle.sheets.specs.Cases.{SheetCases}
 
 pub sheet_cases : SheetCases
 unfolding sheet_answer item_answer found handed_out sheet_ok sheet_of pairs_from joined pairs_ok pairs_fit starts_at_end end_before
-    all_items item_at is_item read_item read_kind twinless new_at differ first every tab number_at part same_bytes
+    all_items item_at is_item read_item read_kind twinless new_at differ first judged every tab number_at part same_bytes
 sheet_cases = record {
   case_r_lem = refl;
   case_r_made = refl;

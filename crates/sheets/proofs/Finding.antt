@@ -1,66 +1,56 @@
 -- What the reader finds, by its refusals in their order.
 use Prim.Native.Nat.{ℕ, ◌≤◌, ◌<◌}
-use native.Mathlib.Omega.{arith}
 use mathlib.Core.Bool.{Bool, true, false, not, cond}
 use mathlib.Core.List.{List, []}
-use mathlib.Core.Path.{◌≡◌, refl, sym, ap, ap₂, ◌∙◌}
+use mathlib.Core.Path.{◌≡◌, refl, ap}
 use lib.Dec.{eqb, leb}
 use borrow.Author.Tests.{le-leb, lt-leb}
+use Rattle.std.specs.Prelude.{Result, Ok, Err}
 use Rattle.base.specs.Bytes.{part}
-use Rattle.base.proofs.Refusals.{stop, pass, none_left}
-use Rattle.pairs.specs.Pairs.{offset_of, size_of}
-use Rattle.sheets.specs.declared.Found.{Found}
-use Rattle.sheets.specs.declared.Found.TheVariants.{Part, Refused}
-use Rattle.sheets.specs.Sheet.{pairs_at, count_on, text_on, sheet_ok}
-use Rattle.sheets.specs.Found.{item_answer, found, handed_out}
+use Rattle.base.specs.Refusals.{first, judged}
+use Rattle.base.specs.declared.refusal.Refusal.{Refusal}
+use Rattle.base.specs.declared.refusal.Refusal.TheVariants.{Name, Sheet}
+use Rattle.sheets.specs.declared.Part.{Part}
+use Rattle.sheets.specs.Sheet.{count_on, text_on, sheet_ok}
+use Rattle.sheets.specs.Found.{item_answer, part_at, part_unless, found, handed_out}
 
-module _ (s : List ℕ) (k : ℕ) {r : Bool} (judged : r ≡ sheet_ok s) where
-  -- the first refusal that applies
+module _ (s : List ℕ) (k : ℕ) where
+  -- by whether the bytes are a sheet, and whether it has more than k items
 
-  sheet_first : not r ≡ true → 16 ≡ item_answer s k
-  unfolding item_answer
-  sheet_first bad = stop 16 _ (ap not judged) bad
+  pub no_sheet : sheet_ok s ≡ false → found s k ≡ Err Sheet
+  unfolding found judged
+  no_sheet bad = rw bad
 
-  module _ (good : not r ≡ false) {n : ℕ} (counted : n ≡ count_on s) where
-    name_next : n ≤ k → 6 ≡ item_answer s k
-    unfolding item_answer
-    name_next l = pass 16 6 _ (ap not judged) good (stop 6 _ (ap (λ (c : ℕ). leb c k) counted) (le-leb n k l))
+  pub no_item : sheet_ok s ≡ true → count_on s ≤ k → found s k ≡ Err Name
+  unfolding found judged
+  no_item ok l = rw (ok, le-leb (count_on s) k l)
 
-    none_applies : k < n → 0 ≡ item_answer s k
-    unfolding item_answer
-    none_applies l = pass 16 0 _ (ap not judged) good (pass 6 0 _ (ap (λ (c : ℕ). leb c k) counted) (lt-leb n k l) none_left)
+  pub part_found : sheet_ok s ≡ true → k < count_on s → found s k ≡ Ok (part_at s k)
+  unfolding found judged
+  part_found ok l = rw (ok, lt-leb (count_on s) k l)
 
-    -- and what is found
+  -- what is handed out is the part that is found, or nothing
 
-    pub no_item : n ≤ k → Refused 6 ≡ found s k
-    unfolding found
-    no_item l = rw (← name_next l)
+  abbrev Found : Bool → Bool → Result Part Refusal
+  Found ok past = part_unless (cond (not ok) (Err Sheet) (cond past (Err Name) (Ok tt))) (part_at s k)
 
-    pub part-found : {o z : ℕ} → k < n → o ≡ offset_of s pairs_at k → z ≡ size_of s pairs_at k → Part o z ≡ found s k
-    unfolding found
-    part-found l o_is z-is = rw (← none_applies l) (ap₂ Part o_is z-is)
+  abbrev Handed : Bool → Bool → List ℕ
+  Handed ok past = cond (eqb (cond (not ok) 16 (cond past 6 0)) 0) (text_on s k) []
 
-  pub no_sheet : not r ≡ true → Refused 16 ≡ found s k
-  unfolding found
-  no_sheet bad = rw (← sheet_first bad)
-
--- what is handed out is the part that is found
-
-module _ (s : List ℕ) (k : ℕ) {f : Found} (is_found : f ≡ found s k) where
-  pub handed_part : {o z : ℕ} {r : List ℕ} → f ≡ Part o z → r ≡ part s o z → r ≡ handed_out s k
-  unfolding found handed_out
-  handed_part {o} {z} is-part e = e ∙ go (eqb (item_answer s k) 0) (sym is-part ∙ is_found)
+  pub handed_part : (p : Part) → found s k ≡ Ok p → part s p.offset p.length ≡ handed_out s k
+  unfolding found judged handed_out item_answer first
+  handed_part p = go (sheet_ok s) (leb (count_on s) k)
     where
-      go : (b : Bool) → Part o z ≡ cond b (Part (offset_of s pairs_at k) (size_of s pairs_at k)) (Refused (item_answer s k))
-          → part s o z ≡ cond b (text_on s k) []
-      go true p = let offset : o ≡ offset_of s pairs_at k = cc in let size : z ≡ size_of s pairs_at k = cc in ap₂ (part s) offset size
-      go false p = let never : ◌≡◌ {A = ℕ} 0 1 = cc in absurd (omega arith)
+      go : (ok past : Bool) → Found ok past ≡ Ok p → part s p.offset p.length ≡ Handed ok past
+      go true true e = cc
+      go true false e = let its : p ≡ part_at s k = cc in ap (λ (q : Part). part s q.offset q.length) its
+      go false past e = cc
 
-  pub handed_none : {n : ℕ} → f ≡ Refused n → [] ≡ handed_out s k
-  unfolding found handed_out
-  handed_none {n} is-refused = go (eqb (item_answer s k) 0) (sym is-refused ∙ is_found)
+  pub handed_none : (w : Refusal) → found s k ≡ Err w → [] ≡ handed_out s k
+  unfolding found judged handed_out item_answer first
+  handed_none w = go (sheet_ok s) (leb (count_on s) k)
     where
-      go : (b : Bool) → Refused n ≡ cond b (Part (offset_of s pairs_at k) (size_of s pairs_at k)) (Refused (item_answer s k))
-          → [] ≡ cond b (text_on s k) []
-      go true p = let never : ◌≡◌ {A = ℕ} 0 1 = cc in absurd (omega arith)
-      go false p = refl
+      go : (ok past : Bool) → Found ok past ≡ Err w → [] ≡ Handed ok past
+      go true true e = refl
+      go true false e = cc
+      go false past e = refl

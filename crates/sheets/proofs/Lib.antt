@@ -1,4 +1,3 @@
-pub mod Judged
 pub mod Finding
 pub mod Passed
 pub mod Exact

@@ -1,9 +1,9 @@
 -- Sheets, and bytes that are none, by examples.
-use Rattle.std.specs.Prelude.{ℕ, List, [], ◌∷◌, ◌++◌, ◌≡◌}
+use Rattle.std.specs.Prelude.{Ok, Err, ℕ, List, [], ◌∷◌, ◌++◌, ◌≡◌}
 use Rattle.base.specs.Tab.{tab}
 use Rattle.sheets.specs.Made.{sheet_of}
 use Rattle.sheets.specs.Found.{sheet_answer, found, handed_out}
-use Rattle.sheets.specs.declared.Found.TheVariants.{Part, Refused}
+use Rattle.base.specs.declared.refusal.Refusal.TheVariants.{Name, Sheet}
 
 -- items of ballot 7: an audit, a cancellation, a vote of one preference
 abbrev pub audit : List ℕ
@@ -38,12 +38,12 @@ audits n = sheet_of 0 (tab n (λ k. 0 ∷ 0 ∷ 0 ∷ k ∷ 2 ∷ []))
 pub record SheetCases : Type 0 where
   pub case_r_lem : sheet_answer sheet_r ≡ 0
   pub case_r_made : sheet_of 0 (audit ∷ []) ≡ sheet_r
-  pub case_r_item : found sheet_r 0 ≡ Part 6 5
+  pub case_r_item : found sheet_r 0 ≡ Ok (record { offset = 6; length = 5 })
   pub case_r_text : handed_out sheet_r 0 ≡ audit
-  pub case_r_past : found sheet_r 1 ≡ Refused 6
+  pub case_r_past : found sheet_r 1 ≡ Err Name
   pub three-items : sheet_answer three ≡ 0
   pub three_made : sheet_of 7 (vote ∷ audit ∷ cancellation ∷ []) ≡ three
-  pub third-item : found three 2 ≡ Part 25 5
+  pub third-item : found three 2 ≡ Ok (record { offset = 25; length = 5 })
   -- an audit with its place, alone and beside one without
   pub placed-audit : sheet_answer (0 ∷ 1 ∷ 0 ∷ 6 ∷ 0 ∷ 6 ∷ placed) ≡ 0
   pub mixed-audits : sheet_answer mixed ≡ 0
@@ -52,7 +52,7 @@ pub record SheetCases : Type 0 where
   -- a board of no items is two bytes, and no more
   pub no_items : sheet_answer (3 ∷ 0 ∷ []) ≡ 0
   pub no_items_tail : sheet_answer (3 ∷ 0 ∷ 0 ∷ []) ≡ 16
-  pub no_items_item : found (3 ∷ 0 ∷ []) 0 ≡ Refused 6
+  pub no_items_item : found (3 ∷ 0 ∷ []) 0 ≡ Err Name
   -- neither clashes nor an order of the items are judged
   pub clashing : sheet_answer (0 ∷ 2 ∷ 0 ∷ 10 ∷ 0 ∷ 6 ∷ 0 ∷ 16 ∷ 0 ∷ 5 ∷ (vote ++ audit)) ≡ 0
   -- what is no sheet
@@ -67,4 +67,4 @@ pub record SheetCases : Type 0 where
   pub kind_4 : sheet_answer (0 ∷ 1 ∷ 0 ∷ 6 ∷ 0 ∷ 5 ∷ 0 ∷ 0 ∷ 0 ∷ 7 ∷ 4 ∷ []) ≡ 16
   pub audit_of_7_bytes : sheet_answer (0 ∷ 1 ∷ 0 ∷ 6 ∷ 0 ∷ 7 ∷ (placed ++ (0 ∷ []))) ≡ 16
   pub twins : sheet_answer (0 ∷ 2 ∷ 0 ∷ 10 ∷ 0 ∷ 5 ∷ 0 ∷ 15 ∷ 0 ∷ 5 ∷ (audit ++ audit)) ≡ 16
-  pub no_sheet_item : found (8 ∷ 0 ∷ []) 0 ≡ Refused 16
+  pub no_sheet_item : found (8 ∷ 0 ∷ []) 0 ≡ Err Sheet

@@ -1,10 +1,10 @@
 -- What the reader of a sheet answers: 16 for bytes that are none, then 6 for an item number of the count or above.
-use Rattle.std.specs.Prelude.{ℕ, not, cond, List, [], ◌∷◌, ◌++◌, eqb, leb}
-use Rattle.base.specs.Refusals.{Refusals, name, sheet, numbered, first}
+use Rattle.std.specs.Prelude.{Result, Ok, Err, ℕ, not, cond, List, [], ◌∷◌, ◌++◌, eqb, leb}
+use Rattle.base.specs.Refusals.{Refusals, name, sheet, number_of, numbered, first, judged}
+use Rattle.base.specs.declared.refusal.Refusal.{Refusal}
 use Rattle.pairs.specs.Pairs.{offset_of, size_of}
 use Rattle.sheets.specs.Sheet.{pairs_at, count_on, text_on, sheet_ok}
-use Rattle.sheets.specs.declared.Found.{Found}
-use Rattle.sheets.specs.declared.Found.TheVariants.{Part, Refused}
+use Rattle.sheets.specs.declared.Part.{Part}
 
 -- the refusals of the whole sheet, and of item k, in the order in which they are judged
 
@@ -22,24 +22,33 @@ sheet_answer s = first (numbered (sheet_refusals s))
 unfoldable pub item_answer : List ℕ → ℕ → ℕ
 item_answer s k = first (numbered (item_refusals s k))
 
+-- where the text of item k stands in the sheet: offset and length
+abbrev pub part_at : List ℕ → ℕ → Part
+part_at s k = record { offset = offset_of s pairs_at k; length = size_of s pairs_at k }
+
+-- a part, where nothing is refused
+abbrev pub part_unless : Result (Unit {0}) Refusal → Part → Result Part Refusal
+part_unless (Ok u) p = Ok p
+part_unless (Err r) p = Err r
+
 -- what is found of item k: where its text stands in the sheet, or the refusal
-unfoldable pub found : List ℕ → ℕ → Found
-found s k = cond (eqb (item_answer s k) 0) (Part (offset_of s pairs_at k) (size_of s pairs_at k)) (Refused (item_answer s k))
+unfoldable pub found : List ℕ → ℕ → Result Part Refusal
+found s k = part_unless (judged (item_refusals s k)) (part_at s k)
 
 -- the number on the report of what is found
-abbrev pub found_number : Found → ℕ
-found_number (Part o n) = 0
-found_number (Refused r) = r
+abbrev pub found_number : Result Part Refusal → ℕ
+found_number (Ok p) = 0
+found_number (Err r) = number_of r
 
 -- the offset and the length that are found; a refusal leaves those that were there
 
-abbrev pub found_offset : ℕ → Found → ℕ
-found_offset old (Part o n) = o
-found_offset old (Refused r) = old
+abbrev pub found_offset : ℕ → Result Part Refusal → ℕ
+found_offset old (Ok p) = p.offset
+found_offset old (Err r) = old
 
-abbrev pub found_length : ℕ → Found → ℕ
-found_length old (Part o n) = n
-found_length old (Refused r) = old
+abbrev pub found_length : ℕ → Result Part Refusal → ℕ
+found_length old (Ok p) = p.length
+found_length old (Err r) = old
 
 -- the text of item k, as the part of the sheet that it is; none where the reader refuses
 unfoldable pub handed_out : List ℕ → ℕ → List ℕ

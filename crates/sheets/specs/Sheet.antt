@@ -1,8 +1,10 @@
 -- The sheet of document 02's P2, which a member can open without the table: the period, the item count, pairs of offset
 -- and length as in the ballot table, and the items' texts.
 use Rattle.std.specs.Prelude.{ℕ, Bool, ◌&&◌, List, leb, ltb, length}
+use Rattle.std.specs.Borrow.{Bor}
 use Rattle.base.specs.Bytes.{byte_at}
 use Rattle.base.specs.Tab.{tab}
+use Rattle.pairs.specs.declared.Pairs.{Pairs}
 use Rattle.pairs.specs.Pairs.{text_of, pairs_ok}
 use Rattle.twins.specs.Twins.{twinless}
 use Rattle.ballot.specs.declared.item.Audits.TheVariants.{Either}
@@ -31,6 +33,10 @@ count_on s = byte_at s 1
 -- where the pairs start: after period and count
 abbrev pub pairs_at : ℕ
 pairs_at = 2
+
+-- the pairs of a sheet: after its count, and as many as it says
+abbrev pub pairs_over : Bor (List ℕ) → Pairs
+pairs_over sheet = record { bytes = sheet; at = pairs_at; count = count_on sheet.now }
 
 -- the text of item k: the part of the sheet that its pair marks out
 abbrev pub text_on : List ℕ → ℕ → List ℕ

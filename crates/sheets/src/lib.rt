@@ -5,10 +5,13 @@
 #![tactic(auto)]
 
 ghost use Rattle.std.specs.Prelude.{◌≡◌};
-ghost use Rattle.sheets.specs.Sheet.{count_on, sheet_ok};
+ghost use Rattle.base.specs.Refusals.{answer_of};
+ghost use Rattle.sheets.specs.Sheet.{count_on, pairs_over, sheet_ok};
 ghost use Rattle.sheets.specs.Found.{sheet_answer, found, handed_out};
 
 use ballot::item::Audits;
+use base::refusal::Refusal;
+use pairs::Pairs;
 
 // Periods are below it, and no sheet has more items or more bytes.
 const PERIODS_MOST: u8 = 8;
@@ -20,13 +23,11 @@ pub const SHEET_MOST: usize = 2626;
 // Where the pairs start: after period and count.
 pub const PAIRS_AT: u8 = 2;
 
-// What the reader finds of an item.
+// Where an item's text stands in the sheet.
 #[derive(Clone, Copy)]
-pub enum Found {
-    // Where its text stands in the sheet: offset and length.
-    Part(usize, usize),
-    // The number of the refusal.
-    Refused(u8),
+pub struct Part {
+    pub offset: usize,
+    pub length: usize,
 }
 
 // The item count.
@@ -36,54 +37,59 @@ fn count(sheet: &[u8]) -> u8
     base::byte_at(sheet, 1)
 }
 
+// The pairs.
+fn pairs_of<'a>(sheet: &'a [u8]) -> Pairs<'a>
+    ensures { result ≡ pairs_over sheet.entry }
+{
+    Pairs {
+        bytes: sheet,
+        at: PAIRS_AT,
+        count: count(sheet),
+    }
+}
+
 // Whether the bytes are a sheet.
+#[tactic(auto, unfolding(crate::specs::Sheet::sheet_ok))]
 fn sheet_ok(sheet: &[u8]) -> bool
     ensures { result ≡ sheet_ok sheet.now }
 {
-    if sheet.len() < PAIRS_AT as usize {
-        return false;
-    }
-    if PERIODS_MOST <= base::byte_at(sheet, 0) {
-        return false;
-    }
-    let items = count(sheet);
-    if ITEMS_MOST < items {
-        return false;
-    }
-    if !pairs::pairs_ok(sheet, PAIRS_AT, items) {
-        return false;
-    }
-    if !ballot::item::all_items(Audits::Either, sheet, PAIRS_AT, items) {
-        return false;
-    }
-    twins::no_twins(sheet, PAIRS_AT, items)
+    let pairs = pairs_of(sheet);
+    PAIRS_AT as usize <= sheet.len()
+        && base::byte_at(sheet, 0) < PERIODS_MOST
+        && pairs.count <= ITEMS_MOST
+        && pairs.are_ok()
+        && ballot::item::all_items(Audits::Either, pairs)
+        && twins::no_twins(pairs)
 }
 
-// Judges a sheet: 0, or 16.
-pub fn check_sheet(sheet: &[u8]) -> u8
-    ensures { result ≡ sheet_answer sheet.now }
+// Judges a sheet.
+#[tactic(auto, unfolding(crate::specs::Found::sheet_answer, base::specs::Refusals::first))]
+pub fn check_sheet(sheet: &[u8]) -> Result<(), Refusal>
+    ensures { answer_of result ≡ sheet_answer sheet.now }
 {
     if !sheet_ok(sheet) {
-        return 16;
+        return Err(Refusal::Sheet);
     }
-    0
+    Ok(())
 }
 
-// Where item k stands in the sheet, or the first refusal that applies: 16 for bytes that are no sheet, 6 for a number
-// of the count or above.
-pub fn find_item(sheet: &[u8], k: u8) -> Found
+// Where item k stands in the sheet, or the first refusal that applies: `Sheet` for bytes that are no sheet, `Name` for a
+// number of the count or above.
+#[tactic(auto, unfolding(crate::specs::Found::found, base::specs::Refusals::judged))]
+pub fn find_item(sheet: &[u8], k: u8) -> Result<Part, Refusal>
     ensures { result ≡ found sheet.now k }
 {
     if !sheet_ok(sheet) {
-        return Found::Refused(16);
+        return Err(Refusal::Sheet);
     }
-    if count(sheet) <= k {
-        return Found::Refused(6);
+    let pairs = pairs_of(sheet);
+    if pairs.count <= k {
+        return Err(Refusal::Name);
     }
-    Found::Part(
-        pairs::offset(sheet, PAIRS_AT, k) as usize,
-        pairs::size(sheet, PAIRS_AT, k) as usize,
-    )
+    Ok(Part {
+        offset: pairs.offset(k) as usize,
+        length: pairs.size(k) as usize,
+    })
 }
 
 // The text of item k, as the part of the sheet that it is; none where the reader refuses.
@@ -91,7 +97,7 @@ pub fn hand_out(sheet: &[u8], k: u8) -> &[u8]
     ensures { result.now ≡ handed_out sheet.now k }
 {
     match find_item(sheet, k) {
-        Found::Part(offset, length) => base::part_of(sheet, offset, length),
-        Found::Refused(_) => &sheet[..0],
+        Ok(part) => base::part_of(sheet, part.offset, part.length),
+        Err(_) => &sheet[..0],
     }
 }

@@ -1,5 +1,5 @@
 -- The output by the first refusal that applies, or the numbers that are left; and how long it is at most.
-use Prim.Native.Nat.{ℕ, ◌+◌, ◌-◌, ◌^◌, ◌≤◌, ◌<◌}
+use Prim.Native.Nat.{ℕ, ◌+◌, ◌-◌, ◌≤◌, ◌<◌}
 use native.Mathlib.Decide.{dec_lt}
 use native.Mathlib.Omega.{arith}
 use mathlib.Core.Bool.{Bool, true, false, cond}
@@ -9,12 +9,15 @@ use mathlib.Core.Path.{◌≡◌, sym, ap, ◌∙◌}
 use lib.Dec.{eqb}
 use lib.ListN.{length, length-append}
 use borrow.Author.Tests.{eq-eqb, ne_eqb, eqb-true, not-false}
-use Rattle.base.specs.Refusals.{numbered, first}
-use Rattle.base.proofs.Refusals.{first_small, passed}
+use Rattle.std.specs.Prelude.{Result, Err}
+use Rattle.base.specs.declared.refusal.Refusal.{Refusal}
+use Rattle.base.specs.Refusals.{number_of, answer_of, numbered, first}
+use Rattle.base.proofs.Refusals.{first_small, passed, refused_ne0}
 use Rattle.base.proofs.Truth.{split, either, or_l, or_r}
-use Rattle.text.specs.Wrote.{over, Wrote, each}
+use Rattle.text.specs.declared.Printer.{Printer}
+use Rattle.text.specs.Wrote.{Put, each}
 use Rattle.text.proofs.Digits.{decimal_most}
-use Rattle.text.proofs.Writing.{renamed}
+use Rattle.text.proofs.Puts.{renamed}
 use Rattle.report.specs.Lines.{refused_line}
 use Rattle.report.proofs.Sizes.{each_most, refused_most}
 use Rattle.header.specs.Header.{header_size}
@@ -34,8 +37,8 @@ use Rattle.shrinking.specs.Shrunk.{clean, shrink_refusal, number_line, kept_line
 
 -- a rehearsal without steps
 
-pub no_steps : (input : List ℕ) {out is : List ℕ} {n to : ℕ} → input_refusal input ≡ 0 → n ≡ step_count input → n ≡ 0
-    → Wrote out 0 (refused_line 18) is to → Wrote out 0 (shrunk input) is to
+pub no_steps : (input : List ℕ) {out is : Printer} {n : ℕ} → input_refusal input ≡ 0 → n ≡ step_count input → n ≡ 0
+    → Put out (refused_line 18) is → Put out (shrunk input) is
 unfolding clean
 no_steps input good count none w =
     renamed (then_clean input good (or_l _ _ (eq-eqb (step_count input) 0 (sym count ∙ none)))) w
@@ -47,14 +50,14 @@ module _ {input : List ℕ} {last : ℕ} {flags s : List ℕ} (U : Uncut input l
   pub wanted_is : a ≡ answer_in input every_step
   wanted_is = trial ∙ ap (answer_in input) U.all
 
-  pub says_clean_lem : {out is : List ℕ} {to : ℕ} → a ≡ 0 → Wrote out 0 (refused_line 18) is to → Wrote out 0 (shrunk input) is to
+  pub says_clean_lem : {out is : Printer} → a ≡ 0 → Put out (refused_line 18) is → Put out (shrunk input) is
   unfolding clean
   says_clean_lem zero w =
       let taken : eqb (answer_in input every_step) 0 ≡ true = eq-eqb _ 0 (sym wanted_is ∙ zero) in
       renamed (then_clean input U.good (or_r (eqb (step_count input) 0) _ taken)) w
 
-  pub says_left : {keep : Kept} {out is : List ℕ} {to : ℕ} → (a ≡ 0 → ⊥) → step_count input ≡ last + 1 → keep ≡ steps_left input
-      → Wrote out 0 (each (kept_line keep) (last + 1)) is to → Wrote out 0 (shrunk input) is to
+  pub says_left : {keep : Kept} {out is : Printer} → (a ≡ 0 → ⊥) → step_count input ≡ last + 1 → keep ≡ steps_left input
+      → Put out (each (kept_line keep) (last + 1)) is → Put out (shrunk input) is
   unfolding clean
   says_left bad count kept w =
       let some : eqb (step_count input) 0 ≡ false = ne_eqb (step_count input) 0 (λ e. omega (arith, count, e)) in
@@ -119,14 +122,16 @@ shrunk_most_lem input = go (either (eqb (shrink_refusal input) 0))
         (λ k l. line_most_lem (steps_left input) k (omega (arith, steps_most_lem input T))))
     go (inr e) = rw e (omega (arith, refused_most (shrink_refusal input) (refusal_small input)))
 
--- what `shrink` promises
+-- an input that is refused
+pub refused : (input : List ℕ) {out is : Printer} (a : Result Unit Refusal) → answer_of a ≡ input_refusal input → (r : Refusal) → a ≡ Err r
+    → Put out (refused_line (number_of r)) is → Put out (shrunk input) is
+refused input a judged r e w =
+    let given : number_of r ≡ input_refusal input = sym (ap answer_of e) ∙ judged in
+    renamed (ap refused_line given ∙ input_first input (λ z. refused_ne0 r (given ∙ z))) w
 
-abbrev pub Promised : List ℕ → List ℕ → List ℕ → ℕ → Type 0
-Promised input out is r = (r ≡ length (shrunk input)) × ((r ≤ shrunk_most) × (is ≡ over out 0 (shrunk input)))
-
-module _ (input : List ℕ) {out is : List ℕ} {to : ℕ} (room : length out < 2 ^ 64) where
-  pub promised : Wrote out 0 (shrunk input) is to → Promised input out is to
-  promised w = (omega (arith, w.place, shrunk_most_lem input), (omega (arith, w.place, shrunk_most_lem input), w.bytes room))
-
-  pub refused : {r : ℕ} → r ≡ input_refusal input → (r ≡ 0 → ⊥) → Wrote out 0 (refused_line r) is to → Promised input out is to
-  refused {r} judged bad w = promised (renamed (ap refused_line judged ∙ input_first input (λ e. bad (judged ∙ e))) w)
+-- the length of what was written from the start of a buffer on
+pub long : (input : List ℕ) {out is : Printer} → out.at ≡ 0 → Put out (shrunk input) is
+    → (is.at ≡ length (shrunk input)) × (is.at ≤ shrunk_most)
+long input e w =
+    let small = shrunk_most_lem input in
+    (omega (arith, w.wrote.place, small, e), omega (arith, w.wrote.place, small, e))

@@ -30,24 +30,17 @@ pub has-bit : (s : List ℕ) (f : Fact) → in_range f ≡ true → bit_at s (pl
 unfolding contents
 has-bit s f e = rw e
 
--- where a function on the bytes looks for a fact
-pub place_inside : (s : List ℕ) (f : Fact) (a : ℕ) → Canon s → in_range f ≡ true → a ≡ place f → a / 8 < length s
-place_inside s f a c e p = omega (arith, p, place-lt f (range_within f e), c.long)
-
 pub has-none : (s : List ℕ) (f : Fact) → in_range f ≡ false → (contents s).has f ≡ false
 unfolding contents
 has-none s f e = rw e
 
 -- a fact read at its place, where a test found it in range
 module _ (s : List ℕ) (f : Fact) {b : Bool} (e : b ≡ in_range f) where
-  pub there_inside : (a : ℕ) → Canon s → b ≡ true → a ≡ place f → a / 8 < length s
-  there_inside a c t p = place_inside s f a c (sym e ∙ t) p
-
   pub there_yes : (a : ℕ) {r : Bool} → b ≡ true → r ≡ bit_at s a → a ≡ place f → r ≡ (contents s).has f
   there_yes a t r p = r ∙ ap (bit_at s) p ∙ has-bit s f (sym e ∙ t)
 
-  pub there_no : b ≡ false → false ≡ (contents s).has f
-  there_no t = sym (has-none s f (sym e ∙ t))
+  pub there_no : b ≡ false → b ≡ (contents s).has f
+  there_no t = t ∙ sym (has-none s f (sym e ∙ t))
 
 pub number_byte : (s : List ℕ) (n : Number) → is_peer (peer_of n) ≡ true → byte_at s (slot n) ≡ (contents s).number n
 unfolding contents
@@ -56,10 +49,6 @@ number_byte s n e = rw e
 pub number_none : (s : List ℕ) (n : Number) → is_peer (peer_of n) ≡ false → (contents s).number n ≡ 0
 unfolding contents
 number_none s n e = rw e
-
--- where a test found no such peer
-pub no_number : (s : List ℕ) (n : Number) {b : Bool} → b ≡ is_peer (peer_of n) → b ≡ false → 0 ≡ (contents s).number n
-no_number s n e t = sym (number_none s n (sym e ∙ t))
 
 module _ (t s : List ℕ) where
   pub has_same : ((i : ℕ) → i < current_at → byte_at t i ≡ byte_at s i) → (f : Fact) → (contents t).has f ≡ (contents s).has f

@@ -1,5 +1,4 @@
 pub mod Ranges
-mod Arms
 pub mod Places
 pub mod Slots
 pub mod Entries

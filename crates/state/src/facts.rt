@@ -7,17 +7,13 @@ ghost use Rattle.state.specs.Contents.{contents, Canon, Holds, insert};
 use crate::place::{cell_of, heard_by, peer_bit, place_of, spot_of};
 use crate::range::{in_range, is_heard, is_item, is_spot};
 use crate::{Fact, layout};
-use base::wide;
 
 // Whether the state has the fact.
 pub fn is_there(s: &[u8], f: Fact) -> bool
     requires { Canon s.now }
     ensures { result ≡ (contents s.now).has f }
 {
-    if in_range(f) {
-        return bits::has(s, place_of(f));
-    }
-    false
+    in_range(f) && bits::has(s, place_of(f))
 }
 
 // The same for the kinds that most steps ask for, each by its own place.
@@ -27,10 +23,7 @@ pub fn is_posted(s: &[u8], i: u8) -> bool
     requires { Canon s.now }
     ensures { result ≡ (contents s.now).has (Posted i) }
 {
-    if is_item(i) {
-        return bits::has(s, 8 * layout::POSTED + wide(i));
-    }
-    false
+    is_item(i) && bits::has(s, 8 * layout::POSTED + i as usize)
 }
 
 // Whether peer k's signature on item i in period p is outside.
@@ -38,10 +31,7 @@ pub fn is_signed(s: &[u8], k: u8, p: u8, i: u8) -> bool
     requires { Canon s.now }
     ensures { result ≡ (contents s.now).has (Signed k p i) }
 {
-    if is_spot(k, p, i) {
-        return bits::has(s, 8 * layout::SIGNED + peer_bit(cell_of(p, i), k));
-    }
-    false
+    is_spot(k, p, i) && bits::has(s, 8 * layout::SIGNED + peer_bit(cell_of(p, i), k))
 }
 
 // Whether peer j holds item i in period p.
@@ -49,10 +39,7 @@ pub fn is_held(s: &[u8], j: u8, p: u8, i: u8) -> bool
     requires { Canon s.now }
     ensures { result ≡ (contents s.now).has (Held j p i) }
 {
-    if is_spot(j, p, i) {
-        return bits::has(s, 8 * layout::HELD + spot_of(j, p, i));
-    }
-    false
+    is_spot(j, p, i) && bits::has(s, 8 * layout::HELD + spot_of(j, p, i))
 }
 
 // Whether peer j heard entry e.
@@ -60,10 +47,7 @@ pub fn is_heard_by(s: &[u8], j: u8, e: u8) -> bool
     requires { Canon s.now }
     ensures { result ≡ (contents s.now).has (Heard j e) }
 {
-    if is_heard(j, e) {
-        return bits::has(s, 8 * layout::HEARD + heard_by(j, e));
-    }
-    false
+    is_heard(j, e) && bits::has(s, 8 * layout::HEARD + heard_by(j, e))
 }
 
 // Adds the fact.

@@ -4,6 +4,9 @@
 // It uses bits to read and to write, and the vocabulary of rules.
 #![tactic(auto)]
 
+ghost use Rattle.std.specs.Prelude.{◌≡◌};
+ghost use Rattle.state.specs.Numbers.{peer_of};
+
 pub mod facts;
 pub mod layout;
 pub mod numbers;
@@ -38,4 +41,15 @@ pub enum Number {
     ToBackOf(u8),
     // 1 where the peer is down
     DownOf(u8),
+}
+
+impl Number {
+    // The peer whose number it is.
+    pub(crate) fn peer(self) -> u8
+        ensures { result ≡ peer_of self }
+    {
+        match self {
+            Number::CurrentOf(j) | Number::ToBackOf(j) | Number::DownOf(j) => j,
+        }
+    }
 }

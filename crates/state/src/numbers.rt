@@ -9,23 +9,12 @@ use crate::Number;
 use crate::place::slot_of;
 use crate::range::is_peer;
 
-// A number of a peer for which there is room.
-fn value_of(s: &[u8], n: Number) -> u8
-    requires { Canon s.now × Peer (peer_of n) }
+// A number; 0 where there is no room for its peer.
+fn number_of(s: &[u8], n: Number) -> u8
+    requires { Canon s.now }
     ensures { result ≡ (contents s.now).number n }
 {
-    s[slot_of(n)]
-}
-
-// A number of peer j; 0 where there is no room for the peer.
-fn number_of(s: &[u8], j: u8, n: Number) -> u8
-    requires { Canon s.now × (peer_of n ≡ j) }
-    ensures { result ≡ (contents s.now).number n }
-{
-    if is_peer(j) {
-        return value_of(s, n);
-    }
-    0
+    if is_peer(n.peer()) { s[slot_of(n)] } else { 0 }
 }
 
 // Peer j's open period.
@@ -33,7 +22,7 @@ pub fn current_of(s: &[u8], j: u8) -> u8
     requires { Canon s.now }
     ensures { result ≡ (contents s.now).number (CurrentOf j) }
 {
-    number_of(s, j, Number::CurrentOf(j))
+    number_of(s, Number::CurrentOf(j))
 }
 
 // The next period that peer j is to back.
@@ -41,7 +30,7 @@ pub fn to_back_of(s: &[u8], j: u8) -> u8
     requires { Canon s.now }
     ensures { result ≡ (contents s.now).number (ToBackOf j) }
 {
-    number_of(s, j, Number::ToBackOf(j))
+    number_of(s, Number::ToBackOf(j))
 }
 
 // 1 where peer j is down, 0 where it is up.
@@ -49,7 +38,7 @@ pub fn down_of(s: &[u8], j: u8) -> u8
     requires { Canon s.now }
     ensures { result ≡ (contents s.now).number (DownOf j) }
 {
-    number_of(s, j, Number::DownOf(j))
+    number_of(s, Number::DownOf(j))
 }
 
 // Gives the number the value v.

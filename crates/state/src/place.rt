@@ -6,14 +6,13 @@ ghost use Rattle.state.specs.Places.{cell, row, spot, place};
 ghost use Rattle.state.specs.Numbers.{peer_of, slot};
 
 use crate::{Fact, Number, layout};
-use base::wide;
 
 // The place of a period and an item, in their order.
 pub fn cell_of(p: u8, i: u8) -> usize
     requires { Cell p i }
     ensures { (result ≡ cell p i) × (result < periods * items) }
 {
-    wide(p) * layout::ITEMS + wide(i)
+    p as usize * layout::ITEMS + i as usize
 }
 
 // The place of a peer and a period, in their order.
@@ -21,7 +20,7 @@ pub fn row_of(j: u8, p: u8) -> usize
     requires { Row j p }
     ensures { (result ≡ row j p) × (result < peers * periods) }
 {
-    wide(j - 1) * layout::PERIODS + wide(p)
+    (j - 1) as usize * layout::PERIODS + p as usize
 }
 
 // The place of a peer, a period and an item, in their order.
@@ -29,7 +28,7 @@ pub fn spot_of(j: u8, p: u8, i: u8) -> usize
     requires { Spot j p i }
     ensures { (result ≡ spot j p i) × (result < peers * (periods * items)) }
 {
-    row_of(j, p) * layout::ITEMS + wide(i)
+    row_of(j, p) * layout::ITEMS + i as usize
 }
 
 // A peer's bit in a set of peers, of which n stand before.
@@ -37,7 +36,7 @@ pub(crate) fn peer_bit(n: usize, k: u8) -> usize
     requires { (n < peers * (periods * items)) × Peer k }
     ensures { (result ≡ n * peers + (k - 1)) × (result < peers * (periods * items) * peers) }
 {
-    n * layout::PEERS + wide(k - 1)
+    n * layout::PEERS + (k - 1) as usize
 }
 
 // The place of a peer and the number of an entry, in their order.
@@ -45,7 +44,7 @@ pub(crate) fn heard_by(j: u8, e: u8) -> usize
     requires { Peer j × (e < entries) }
     ensures { (result ≡ (j - 1) * entries + e) × (result < peers * entries) }
 {
-    wide(j - 1) * layout::ENTRIES + wide(e)
+    (j - 1) as usize * layout::ENTRIES + e as usize
 }
 
 // The bit at which a fact stands.
@@ -54,7 +53,7 @@ pub(crate) fn place_of(f: Fact) -> usize
     ensures { result ≡ place f }
 {
     match f {
-        Fact::Posted(i) => 8 * layout::POSTED + wide(i),
+        Fact::Posted(i) => 8 * layout::POSTED + i as usize,
         Fact::Signed(k, p, i) => 8 * layout::SIGNED + peer_bit(cell_of(p, i), k),
         Fact::Shared(k, p, i) => 8 * layout::SHARED + peer_bit(cell_of(p, i), k),
         Fact::Receipted(p, i) => 8 * layout::RECEIPTED + cell_of(p, i),
@@ -70,8 +69,8 @@ pub(crate) fn slot_of(n: Number) -> usize
     ensures { result ≡ slot n }
 {
     match n {
-        Number::CurrentOf(j) => layout::CURRENT + wide(j - 1),
-        Number::ToBackOf(j) => layout::TO_BACK + wide(j - 1),
-        Number::DownOf(j) => layout::DOWN + wide(j - 1),
+        Number::CurrentOf(j) => layout::CURRENT + (j - 1) as usize,
+        Number::ToBackOf(j) => layout::TO_BACK + (j - 1) as usize,
+        Number::DownOf(j) => layout::DOWN + (j - 1) as usize,
     }
 }

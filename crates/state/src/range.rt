@@ -4,73 +4,54 @@ ghost use Rattle.state.specs.Layout.{items, entries};
 ghost use Rattle.state.specs.Facts.{is_peer, is_cell, is_row, is_spot, in_range};
 
 use crate::{Fact, layout};
-use base::wide;
 
 // Whether k is one of the peers for which there is room.
 pub(crate) fn is_peer(k: u8) -> bool
     ensures { result ≡ is_peer k }
 {
-    if k < 1 {
-        return false;
-    }
-    wide(k) <= layout::PEERS
+    1 <= k && k as usize <= layout::PEERS
 }
 
 // Whether there is room for the item.
 pub(crate) fn is_item(i: u8) -> bool
     ensures { result ≡ ltb i items }
 {
-    wide(i) < layout::ITEMS
+    (i as usize) < layout::ITEMS
 }
 
 // Whether there is room for the period and the item.
 pub fn is_cell(p: u8, i: u8) -> bool
     ensures { result ≡ is_cell p i }
 {
-    if wide(p) < layout::PERIODS {
-        return is_item(i);
-    }
-    false
+    (p as usize) < layout::PERIODS && is_item(i)
 }
 
 // Whether there is room for the peer and the period.
 pub fn is_row(j: u8, p: u8) -> bool
     ensures { result ≡ is_row j p }
 {
-    if is_peer(j) {
-        return wide(p) < layout::PERIODS;
-    }
-    false
+    is_peer(j) && (p as usize) < layout::PERIODS
 }
 
 // Whether there is room for the peer, the period and the item.
 pub fn is_spot(k: u8, p: u8, i: u8) -> bool
     ensures { result ≡ is_spot k p i }
 {
-    if is_peer(k) {
-        return is_cell(p, i);
-    }
-    false
+    is_peer(k) && is_cell(p, i)
 }
 
 // Whether there is room for the two peers, the period and the item.
 fn is_known(j: u8, p: u8, i: u8, k: u8) -> bool
     ensures { result ≡ (is_peer j && is_spot k p i) }
 {
-    if is_peer(j) {
-        return is_spot(k, p, i);
-    }
-    false
+    is_peer(j) && is_spot(k, p, i)
 }
 
 // Whether there is room for the peer and the entry.
 pub(crate) fn is_heard(j: u8, e: u8) -> bool
     ensures { result ≡ (is_peer j && ltb e entries) }
 {
-    if is_peer(j) {
-        return wide(e) < layout::ENTRIES;
-    }
-    false
+    is_peer(j) && (e as usize) < layout::ENTRIES
 }
 
 // Whether there is room for the fact.

@@ -38,10 +38,7 @@ fn rehearse(rt: &HostRuntime, size: usize) {
 }
 
 fn main(rt: HostRuntime) {
-    let n = next(&mut rt.stdin());
-    let mut k = 0;
-    while k < n {
+    for _ in 0..next(&mut rt.stdin()) {
         rehearse(&rt, next(&mut rt.stdin()));
-        k += 1;
     }
 }

@@ -9,9 +9,7 @@ use lib.Dec.{ltb}
 use lib.ListN.{length, length-append}
 use borrow.Author.Tests.{lt-ltb, le-ltb}
 use Rattle.io.specs.Digits.{last_digits, IsDigitCount}
-use Rattle.text.specs.Wrote.{Wrote}
 use Rattle.text.specs.Decimal.{spelled, decimal, field}
-use Rattle.text.proofs.Writing.{◌▷◌}
 
 power : (k : ℕ) → k < 10 ^ k
 power zero = omega arith
@@ -47,11 +45,6 @@ enough (suc (suc k)) n f = omega (arith, f.2 (omega arith), before (suc k), powe
 pub is_decimal : (k n : ℕ) → IsDigitCount 10 1 n k → last_digits 10 k n ≡ decimal n
 unfolding decimal
 is_decimal k n f = spell k (n + 1) n (enough k n f) f
-
-pub one_field : {l l₁ l₂ : List ℕ} {a a₁ a₂ : ℕ} (n : ℕ) → Wrote l a (32 ∷ []) l₁ a₁ → Wrote l₁ a₁ (decimal n) l₂ a₂
-    → Wrote l a (field n) l₂ a₂
-unfolding field
-one_field n x y = x ▷ y
 
 pick_size : (b : Bool) (t u : List ℕ) (c : ℕ) → length t ≤ c → length u ≤ c → length (cond b t u) ≤ c
 pick_size true t u c h g = h

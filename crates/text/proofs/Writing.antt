@@ -1,7 +1,7 @@
 -- Writers one after the other: nothing, one text and then another, a byte, a word, each of a row of texts, a text where a test holds.
 use Prim.Native.Nat.{ℕ, suc, ◌+◌, ◌^◌, ◌≤◌, ◌<◌}
 use native.Mathlib.Decide.{ℕ_discrete}
-use native.Mathlib.Nat.{add-zero, add-suc, suc-add, le_antisymm}
+use native.Mathlib.Nat.{add-zero, add-suc, suc-add}
 use native.Mathlib.Numerals.{add-one}
 use native.Mathlib.Omega.{arith}
 use mathlib.Core.Bool.{Bool, true, false, cond}
@@ -74,10 +74,6 @@ pub each_more : {l l₁ l₂ : List ℕ} {a a₁ a₂ : ℕ} (f : ℕ → List �
 unfolding each
 each_more {l} {l₁} {l₂} {a} {a₁} {a₂} f k x y = subst⁻¹ (λ (n : ℕ). Wrote l a (each f n) l₂ a₂) (add-one k) (x ▷ y)
 
-pub each_all : {l l₁ : List ℕ} {a a₁ : ℕ} (f : ℕ → List ℕ) (n k : ℕ) → k ≤ n → n ≤ k
-    → Wrote l a (each f k) l₁ a₁ → Wrote l a (each f n) l₁ a₁
-each_all {l} {l₁} {a} {a₁} f n k h m x = subst (λ (i : ℕ). Wrote l a (each f i) l₁ a₁) (le_antisymm h m) x
-
 -- a text where a test holds, and nothing where it does not
 pub kept : {l l₁ t : List ℕ} {a a₁ : ℕ} {b r : Bool} → r ≡ b → r ≡ true → Wrote l a t l₁ a₁ → Wrote l a (cond b t []) l₁ a₁
 kept {l} {l₁} {t} {a} {a₁} {b} {r} e y x = rw (← e, y) x
@@ -88,3 +84,7 @@ left_out {l} {a} {b} {r} t e n = rw (← e, n) none
 -- the same text under another name
 pub renamed : {l l₁ t u : List ℕ} {a n : ℕ} → t ≡ u → Wrote l a t l₁ n → Wrote l a u l₁ n
 renamed {l} {l₁} {t} {u} {a} {n} e x = subst (λ (v : List ℕ). Wrote l a v l₁ n) e x
+
+-- the same text with its next place at the last one, where it lies past that
+pub at_most : {l l₁ t : List ℕ} {a n k : ℕ} → k ≡ place_of n → Wrote l a t l₁ n → Wrote l a t l₁ k
+at_most e x = record { long = x.long; bytes = x.bytes; place = omega (arith, e, x.place) }

@@ -1,6 +1,7 @@
 -- Text written into lent bytes, as far as they reach.
 use Rattle.std.specs.Prelude.{ℕ, zero, suc, ◌+◌, ◌<◌, ◌^◌, min, List, [], ◌++◌, ◌≡◌, length}
 use Rattle.std.proofs.lemmas.List.Edits.{sets}
+use Rattle.text.specs.declared.Printer.{Printer}
 
 -- the bytes with the text in place of those from `at` on; what lies past their end is left out
 unfoldable pub over : List ℕ → ℕ → List ℕ → List ℕ
@@ -21,3 +22,8 @@ pub record Wrote (was : List ℕ) (at : ℕ) (text is : List ℕ) (next : ℕ) :
 unfoldable pub each : (ℕ → List ℕ) → ℕ → List ℕ
 each f zero = []
 each f (suc k) = each f k ++ f k
+
+-- what a printer promises that has written the text: it was this one, and is that one, over the same lent bytes
+pub record Put (was : Printer) (text : List ℕ) (is : Printer) : Type 0 where
+  pub same : is.out.ghost_name ≡ was.out.ghost_name
+  pub wrote : Wrote was.out.now was.at text is.out.now is.at

@@ -1,69 +1,68 @@
 // Text written into a lent buffer: bytes, words and numbers, each at the place where the one before it ended.
-// A place is handed on by value. What lies past the buffer's end is counted and not written.
+// What lies past the buffer's end is counted and not written.
 // It uses io for decimal digits, and no other crate.
 #![tactic(auto)]
 
-ghost use Rattle.std.specs.Prelude.{◌+◌, [], ◌∷◌, ◌≡◌};
-ghost use Rattle.text.specs.Wrote.{place_of, Wrote};
+ghost use Rattle.std.specs.Prelude.{[], ◌∷◌, ◌≡◌};
+ghost use Rattle.text.specs.Wrote.{Put};
 ghost use Rattle.text.specs.Decimal.{decimal, field};
 
-// The last place.
-const LAST: usize = 18446744073709551615;
+// A lent buffer, and the place in it at which the next text goes.
+#[derive(Drop)]
+pub struct Printer<'a> {
+    pub out: &'a mut [u8],
+    pub at: usize,
+}
 
-// The place after a place that lies past the buffer's end; after the last there is none.
-fn next_place(at: usize) -> usize
-    ensures { place_of result ≡ place_of (at + 1) }
-{
-    if at == LAST {
-        return at;
+impl<'a> Printer<'a> {
+    // At the buffer's start.
+    pub fn new(out: &'a mut [u8]) -> Printer<'a>
+        ensures same { result.out.ghost_name ≡ out.entry.ghost_name }
+        ensures out { result.out.now ≡ out.old }
+        ensures at { result.at ≡ 0 }
+    {
+        Printer { out, at: 0 }
     }
-    at + 1
-}
 
-// Writes a byte.
-pub fn put_byte(out: &mut [u8], at: usize, b: u8) -> usize
-    ensures { Wrote out.old at (b ∷ []) out.new result }
-{
-    if at < out.len() {
-        out[at] = b;
-        return at + 1;
+    // Writes a byte.
+    pub fn byte(&mut self, b: u8)
+        ensures { Put self.old (b ∷ []) self.new }
+    {
+        if self.at < self.out.len() {
+            self.out[self.at] = b;
+        }
+        self.at = self.at.saturating_add(1);
     }
-    next_place(at)
-}
 
-// Writes a word, byte by byte.
-pub fn put_word(out: &mut [u8], at: usize, word: &[u8]) -> usize
-    ensures { Wrote out.old at word.now out.new result }
-{
-    let mut to = at;
-    let mut i = 0;
-    while i < word.len() {
-        to = put_byte(out, to, word[i]);
-        i += 1;
+    // Writes a word, byte by byte.
+    pub fn word(&mut self, word: &[u8])
+        ensures { Put self.old word.now self.new }
+    {
+        let out = &mut *self.out;
+        let mut at = self.at;
+        for b in word {
+            if at < out.len() {
+                out[at] = *b;
+            }
+            at = at.saturating_add(1);
+        }
+        self.at = at;
     }
-    to
-}
 
-// Writes a number in decimal digits.
-pub fn put_decimal(out: &mut [u8], at: usize, n: u64) -> usize
-    ensures { Wrote out.old at (decimal n) out.new result }
-{
-    let mut digits = [0u8; 20];
-    let k = io::decimal(n, &mut digits);
-    put_word(out, at, &digits[..k])
-}
+    // Writes a number in decimal digits.
+    pub fn decimal(&mut self, n: u64)
+        ensures { Put self.old (decimal n) self.new }
+    {
+        let mut digits = [0u8; 20];
+        let k = io::decimal(n, &mut digits);
+        self.word(&digits[..k]);
+    }
 
-// Writes a blank and a number.
-pub fn put_field(out: &mut [u8], at: usize, n: u64) -> usize
-    ensures { Wrote out.old at (field n) out.new result }
-{
-    let to = put_byte(out, at, b' ');
-    put_decimal(out, to, n)
-}
-
-// Writes a blank and a number of one byte.
-pub fn put_small(out: &mut [u8], at: usize, n: u8) -> usize
-    ensures { Wrote out.old at (field n) out.new result }
-{
-    put_field(out, at, n as u64)
+    // Writes a blank and a number.
+    pub fn field(&mut self, n: u64)
+        ensures { Put self.old (field n) self.new }
+    {
+        self.byte(b' ');
+        self.decimal(n);
+    }
 }

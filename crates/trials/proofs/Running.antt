@@ -104,9 +104,6 @@ module _ {input table : List ℕ} {last : ℕ} {h : Head} {rows : List ℕ} (F :
   unfolding step_count
   count_few = omega (arith, F.counted, F.made.taken.few)
 
-  pub count_fits : last + 1 < 2 ^ 64
-  count_fits = omega (arith, count_few)
-
   pub last_few : last ≤ input_most
   last_few = omega (arith, count_few)
 

@@ -2,68 +2,57 @@
 ghost use Rattle.std.specs.Prelude.{◌≡◌, ◌<◌, ◌+◌, length};
 ghost use Rattle.state.specs.Layout.{size};
 ghost use Rattle.rehearsal.specs.Input.{input_most};
-ghost use Rattle.rehearsal.specs.Running.{Made};
 ghost use Rattle.trials.specs.Flags.{kept};
 ghost use Rattle.trials.specs.Answers.{answer_in};
 ghost use Rattle.trials.specs.Running.{Fixed, Stands};
 
 use crate::flags::is_kept;
+use base::refusal::answer;
 use header::Head;
 use rehearsal::input::call_at;
 
-// Runs step k if it is kept.
-fn run_if_kept(
-    input: &[u8],
-    table: &[u8],
-    h: Head,
-    rows: &[u64],
-    flags: &[u8],
-    k: usize,
-    s: &mut [u8],
-)
-    requires { Made input.now table.now h rows.now × (k < input_most)
-        × Stands input.now (kept flags.now) k s.old }
-    ensures { Stands input.now (kept flags.now) (k + 1) s.new }
-{
-    if is_kept(flags, k) {
-        engine::run_step(table, s, h, rows, call_at(input, table.len(), k));
-    }
+// What is the same in every trial: the input, its table, what was made of this once, and the number of the last step,
+// counted from 0.
+#[derive(Clone, Copy)]
+pub struct Trial<'a> {
+    pub input: &'a [u8],
+    pub table: &'a [u8],
+    pub head: Head,
+    pub rows: &'a [u64],
+    pub last: usize,
+    pub ghost fixed: { Fixed input.now table.now head rows.now last },
 }
 
-// Runs the kept steps before the last, from the fresh state.
-fn run_kept(
-    input: &[u8],
-    table: &[u8],
-    h: Head,
-    rows: &[u64],
-    last: usize,
-    flags: &[u8],
-    s: &mut [u8],
-)
-    requires { Fixed input.now table.now h rows.now last × (length s.old ≡ size) }
-    ensures { Stands input.now (kept flags.now) last s.new }
-{
-    engine::clear(s);
-    let mut k = 0;
-    while k < last {
-        run_if_kept(input, table, h, rows, flags, k, s);
-        k += 1;
+impl<'a> Trial<'a> {
+    // Runs step k if it is kept.
+    fn run_if_kept(&self, flags: &[u8], k: usize, s: &mut [u8])
+        requires { (k < input_most) × Stands self.now.input.now (kept flags.now) k s.old }
+        ensures { Stands self.now.input.now (kept flags.now) (k + 1) s.new }
+    {
+        if is_kept(flags, k) {
+            let step = call_at(self.input, self.table.len(), k);
+            let _ = engine::run_step(self.table, s, self.head, self.rows, step);
+        }
     }
-}
 
-// The last step's answer, where the kept steps before it have run from the fresh state.
-pub fn last_answer(
-    input: &[u8],
-    table: &[u8],
-    h: Head,
-    rows: &[u64],
-    last: usize,
-    flags: &[u8],
-    s: &mut [u8],
-) -> u8
-    requires { Fixed input.now table.now h rows.now last × (length s.old ≡ size) }
-    ensures { result ≡ answer_in input.now (kept flags.now) }
-{
-    run_kept(input, table, h, rows, last, flags, s);
-    engine::run_step(table, s, h, rows, call_at(input, table.len(), last))
+    // Runs the kept steps before the last, from the fresh state.
+    fn run_kept(&self, flags: &[u8], s: &mut [u8])
+        requires { length s.old ≡ size }
+        ensures { Stands self.now.input.now (kept flags.now) self.now.last s.new }
+    {
+        engine::clear(s);
+        for k in 0..self.last {
+            self.run_if_kept(flags, k, s);
+        }
+    }
+
+    // The last step's answer, where the kept steps before it have run from the fresh state.
+    pub fn last_answer(&self, flags: &[u8], s: &mut [u8]) -> u8
+        requires { length s.old ≡ size }
+        ensures { result ≡ answer_in self.now.input.now (kept flags.now) }
+    {
+        self.run_kept(flags, s);
+        let step = call_at(self.input, self.table.len(), self.last);
+        answer(engine::run_step(self.table, s, self.head, self.rows, step))
+    }
 }

@@ -1,17 +1,19 @@
 -- Texts of which no two are twins are apart: where two of them are the same they have one number; and the other way.
-use Prim.Native.Nat.{ℕ, ◌<◌}
+use Prim.Native.Nat.{ℕ, zero, suc, ◌<◌}
 use native.Mathlib.Omega.{arith}
-use mathlib.Core.Bool.{true, false}
+use mathlib.Core.Bool.{Bool, true, false, not, ◌&&◌, ◌||◌}
 use mathlib.Core.List.{List}
 use mathlib.Core.Logic.{◌⊎◌, inl, inr}
-use mathlib.Core.Path.{◌≡◌, sym}
+use mathlib.Core.Path.{◌≡◌, refl, sym, ap, ◌∙◌}
 use lib.Dec.{ltb}
 use borrow.Author.Tests.{ltb-true, ltb-false, not-true}
 use Rattle.base.proofs.Truth.{split, either, not_i}
-use Rattle.base.proofs.Below.{every-at, every_of}
+use Rattle.base.specs.Below.{any, every}
+use Rattle.base.proofs.Below.{every-at, every_of, every_ext}
 use Rattle.base.proofs.Bytes.{same_of_eq, eq_of_same}
 use Rattle.pairs.specs.Pairs.{text_of}
 use Rattle.twins.specs.Twins.{differ, new_at, twinless}
+use Rattle.twins.specs.Marks.{are_same}
 
 module _ (s : List ℕ) (at m : ℕ) where
   module _ (ok : twinless s at m ≡ true) where
@@ -34,3 +36,17 @@ module _ (s : List ℕ) (at m : ℕ) where
   all_apart apart =
       every_of m (new_at s at) (λ j l. every_of j (differ s at j) (λ i before.
       not_i _ (λ same. apart i j before l (eq_of_same (text_of s at i) (text_of s at j) same))))
+
+-- no text has a twin exactly if each is other than those before it
+none_same : (n : ℕ) (f : ℕ → Bool) → not (any n f) ≡ every n (λ i. not (f i))
+unfolding any every
+none_same zero f = refl
+none_same (suc n) f = not_or (any n f) (f n) ∙ ap (λ (b : Bool). b && not (f n)) (none_same n f)
+  where
+    not_or : (a b : Bool) → not (a || b) ≡ (not a && not b)
+    not_or true b = refl
+    not_or false b = refl
+
+pub each-new : (s : List ℕ) (at m : ℕ) → every m (λ j. not (any j (are_same s at j))) ≡ twinless s at m
+unfolding twinless new_at differ
+each-new s at m = every_ext m _ _ (λ j l. none_same j (are_same s at j))

@@ -1,74 +1,54 @@
-// Twins: two of the texts that pairs mark out are the same. A text is compared with those before it only where one of
-// them has its mark.
-// It uses pairs for the texts, and base; the ballot table and the sheet go through it.
+// Twins: two of the texts that pairs mark out are the same. They are told apart by marks.
+// It uses pairs for the texts, marks to look for twins, and base; the ballot table and the sheet go through it.
 #![tactic(auto)]
 
-ghost use Rattle.std.specs.Prelude.{◌≡◌};
-ghost use Rattle.twins.specs.Twins.{differ, new_at, twinless};
-ghost use Rattle.twins.specs.Marks.{mark_of, mark_at, Seen};
+ghost use Rattle.std.specs.Prelude.{◌≡◌, ◌<◌};
+ghost use Rattle.marks.specs.New.{marks};
+ghost use Rattle.twins.specs.Twins.{twinless};
+ghost use Rattle.twins.specs.Marks.{mark_of, mark_at, are_same, same_mark};
 
-// How many marks there are: a prime, so that each of a text's first bytes tells in its mark.
-const MARKS: u64 = 4093;
+use marks::Marked;
+use pairs::Pairs;
+
+// A prime below the number of marks, so that each of a text's first bytes tells in its mark.
+const MARK_PRIME: u64 = 4093;
 
 // The mark of a text: what its first eight bytes, as a number, leave over.
+#[tactic(auto, unfolding(crate::specs::Marks::mark_of))]
 fn mark_of(text: &[u8]) -> usize
-    ensures { result ≡ mark_of text.now }
+    ensures { (result ≡ mark_of text.now) × (result < marks) }
 {
-    (base::number_at(text, 0, 8) % MARKS) as usize
+    (base::number_at(text, 0, 8) % MARK_PRIME) as usize
 }
 
-// The mark of text k.
-fn mark_at(s: &[u8], at: u8, k: u8) -> usize
-    ensures { result ≡ mark_at s.now at k }
-{
-    mark_of(pairs::text(s, at, k))
+// The texts that pairs mark out.
+#[derive(Drop)]
+struct Texts<'a> {
+    pairs: Pairs<'a>,
 }
 
-// Whether texts i and j differ.
-fn differs(s: &[u8], at: u8, j: u8, i: u8) -> bool
-    ensures { result ≡ differ s.now at j i }
-{
-    !base::same(pairs::text(s, at, i), pairs::text(s, at, j))
-}
+#[tactic(auto, using(base::proofs::Bytes::same_pointwise), unfolding(crate::specs::Marks::mark_at))]
+impl Marked for Texts<'_> {
+    ghost is_there = { λ x k. k < 256 };
 
-// Whether no text before text j is the same: each is compared.
-fn new_at(s: &[u8], at: u8, j: u8) -> bool
-    ensures { result ≡ new_at s.now at j }
-{
-    let mut i: u8 = 0;
-    while i < j {
-        if !differs(s, at, j, i) {
-            return false;
-        }
-        i += 1;
+    ghost mark_of = { λ x k. mark_at x.pairs.bytes.now x.pairs.at k };
+
+    ghost is_same = { λ x j i. are_same x.pairs.bytes.now x.pairs.at j i };
+
+    ghost same_mark = { λ x j i t. same_mark x.pairs.bytes.now x.pairs.at j i t };
+
+    fn mark(&self, e: usize) -> usize {
+        mark_of(self.pairs.text(e as u8))
     }
-    true
+
+    fn same(&self, e: usize, d: usize) -> bool {
+        self.pairs.text(d as u8) == self.pairs.text(e as u8)
+    }
 }
 
-// The same, where `seen` has the marks of all texts before text j: none is compared where its mark is not seen.
-fn is_new(s: &[u8], at: u8, seen: &[u8], j: u8, mark: usize) -> bool
-    requires { (mark ≡ mark_at s.now at j) × Seen s.now at seen.now j }
-    ensures { result ≡ new_at s.now at j }
+// Whether no two of the texts that the pairs mark out are twins.
+pub fn no_twins(p: Pairs) -> bool
+    ensures { result ≡ twinless p.entry.bytes.now p.entry.at p.entry.count }
 {
-    if base::byte_at(seen, mark) != 1 {
-        return true;
-    }
-    new_at(s, at, j)
-}
-
-// Whether no two of the m texts that pairs from byte `at` on mark out are twins.
-pub fn no_twins(s: &[u8], at: u8, m: u8) -> bool
-    ensures { result ≡ twinless s.now at m }
-{
-    let mut seen = [0; 4093];
-    let mut j: u8 = 0;
-    while j < m {
-        let mark = mark_at(s, at, j);
-        if !is_new(s, at, &seen, j, mark) {
-            return false;
-        }
-        seen[mark] = 1;
-        j += 1;
-    }
-    true
+    marks::all_new(&Texts { pairs: p }, p.count as usize)
 }

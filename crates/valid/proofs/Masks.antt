@@ -4,7 +4,7 @@ use native.Mathlib.Nat.{mul_left_comm, pow-suc, mod-lt, mod-eq_of_lt, div-eq_of_
 use native.Mathlib.Omega.{arith}
 use mathlib.Core.Bool.{Bool, ◌&&◌}
 use mathlib.Core.List.{List}
-use mathlib.Core.Path.{◌≡◌, refl, sym, ap, ap₂, fun_ext, ◌∙◌}
+use mathlib.Core.Path.{◌≡◌, sym, ap, ap₂, fun_ext, ◌∙◌}
 use lib.Arith.{digits_div, digits_mod}
 use lib.Dec.{ltb}
 use lib.ListN.{length, set}
@@ -16,7 +16,7 @@ use Rattle.base.proofs.Bits.{bit-none, bit-pack, pack-bit, pack_ext}
 use Rattle.bits.specs.Row.{bit_at}
 use Rattle.state.specs.Layout.{peers, periods}
 use Rattle.base.specs.Tab.{FilledTo}
-use Rattle.base.proofs.Tab.{tab_ext, get_or-tab, length-tab, filled_none, filled_more, filled_all}
+use Rattle.base.proofs.Tab.{tab_ext, get_or-tab, length-tab, filled_more, filled_all}
 use Rattle.valid.specs.Rows.{only_in, first, in_rows, byte_of, mask}
 use Rattle.valid.proofs.Only.{same_test, only_ext}
 
@@ -26,10 +26,7 @@ unfolding mask byte_of bit_at
 bit_mask w f k l =
     rw (get_or-tab w (byte_of f) (k / 8) 0 (omega arith)) (bit-pack 8 (λ i. f (8 * (k / 8) + i)) (k % 8) (omega arith) ∙ ap f (omega arith))
 
--- a mask filled from the front: no byte yet, one more, all
-
-pub mask-none : (f : ℕ → Bool) (l : List ℕ) → FilledTo 0 (length l) (byte_of f) 0 l
-mask-none f l = filled_none 0 (length l) (byte_of f) l refl
+-- a mask filled from the front: one byte more, all
 
 pub mask_more : (f : ℕ → Bool) (m b v : ℕ) (l : List ℕ) → FilledTo 0 m (byte_of f) b l → v ≡ byte_of f b → b < m
     → FilledTo 0 m (byte_of f) (b + 1) (set l b v)

@@ -24,7 +24,7 @@ use Rattle.header.specs.declared.Head.{Head}
 use Rattle.valid.specs.StateOk.{is_spot, fact_ok, facts_ok}
 use Rattle.valid.specs.Rows.{only_in, first, in_rows, mask}
 use Rattle.valid.specs.Regions.{entry_bytes, hash_in, cells, seats, spots, posted_ok, signed_ok, shared_ok, receipted_ok, held_ok, known_ok, heard_ok, item_sets_ok, peer_sets_ok}
-use Rattle.valid.proofs.Masks.{only_of_mask, rows_of_mask, tables_of_mask}
+use Rattle.valid.proofs.Masks.{mask-row, only_of_mask, rows_of_mask, tables_of_mask}
 
 -- peers count from 1, and their bits from 0
 peer_bit : (n a : ℕ) → between 1 (a + 1) n ≡ ltb a n
@@ -131,10 +131,10 @@ module _ (h : Head) (s : List ℕ) where
 
 -- each region as the code tests it, with a mask m and the table's numbers
 module _ (h : Head) (s : List ℕ) (m : List ℕ) where
-  module _ (e : m ≡ mask item_bytes (first h.items)) where
+  module _ (e : m ≡ mask item_bytes (in_rows 1 item_bytes (first h.items))) where
     pub by_posted : {r : Bool} → r ≡ only_in (length m) s posted_at (bit_at m) → r ≡ posted_ok h s
     unfolding posted_ok
-    by_posted q = q ∙ only_of_mask m _ _ e s posted_at
+    by_posted q = q ∙ only_of_mask m _ _ (e ∙ mask-row item_bytes _ (omega arith)) s posted_at
 
   module _ (e : m ≡ mask (periods * item_bytes) (cells h)) where
     pub by_receipted : {r : Bool} → r ≡ only_in (length m) s receipted_at (bit_at m) → r ≡ receipted_ok h s
@@ -179,12 +179,6 @@ module _ (h : Head) (s : List ℕ) (m : List ℕ) where
         q ∙ rows_of_mask m _ _ e (omega arith) s heard_at peers n
         ∙ ap (λ (x : ℕ). only_in (peers * entry_bytes) s heard_at (in_rows x entry_bytes (hash_in (contents s).bag))) i
 
--- and all of them
-pub by_facts : (h : Head) (s : List ℕ) (r : Bool) → r ≡ (item_sets_ok h s && (peer_sets_ok h s && heard_ok h s)) → r ≡ facts_ok h s
-by_facts h s r e = e ∙ sym (facts_by_region h s)
-
 pub ruleset by-item-sets = (stop, pass, by_posted, by_receipted, by_held)
 
 pub ruleset by-peer-sets = (stop, pass, by_signed, by_shared, by_known)
-
-pub ruleset by-all-sets = (stop, pass, by_facts)

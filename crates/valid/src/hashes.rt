@@ -24,10 +24,8 @@ pub(crate) fn hashes(s: &[u8], n: usize) -> [u8; 32]
     ensures { result ≡ mask entry_bytes (hash_in (contents s.now).bag) }
 {
     let mut m = [0; 32];
-    let mut e = 0;
-    while e < n {
+    for e in 0..n {
         put_if(&mut m, e, s[BAG + ENTRY_SIZE * e] == HASH);
-        e += 1;
     }
     m
 }

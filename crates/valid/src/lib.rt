@@ -21,18 +21,10 @@ mod rows;
 mod sets;
 
 // Row 14: whether the bytes are a state of the table.
+#[tactic(auto, using(bag_valid::proofs::Steps::few_entries), unfolding(crate::specs::StateOk::state_ok))]
 pub fn state_ok(s: &[u8], h: Head) -> bool
     requires { Room h }
     ensures { result ≡ state_ok h s.now }
 {
-    if s.len() != SIZE {
-        return false;
-    }
-    if !bag_ok(s, h) {
-        return false;
-    }
-    if !peers_ok(s, h) {
-        return false;
-    }
-    facts_ok(s, h, count_of(s))
+    s.len() == SIZE && bag_ok(s, h) && peers_ok(s, h) && facts_ok(s, h, count_of(s))
 }

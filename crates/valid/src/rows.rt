@@ -12,10 +12,8 @@ pub(crate) fn only(s: &[u8], o: usize, mask: &[u8]) -> bool
     ensures { result ≡ masked s.now o mask.now }
 {
     let mut beside: u8 = 0;
-    let mut i = 0;
-    while i < mask.len() {
+    for i in 0..mask.len() {
         beside = beside | ((s[o + i] | mask[i]) ^ mask[i]);
-        i += 1;
     }
     beside == 0
 }
@@ -36,14 +34,7 @@ pub(crate) fn each_row(s: &[u8], o: usize, rows: usize, used: usize, mask: &[u8]
     requires { o + rows * length mask.now ≤ length s.now }
     ensures { result ≡ rows_masked rows used s.now o mask.now }
 {
-    let mut i = 0;
-    while i < rows {
-        if !row(s, o + mask.len() * i, i < used, mask) {
-            return false;
-        }
-        i += 1;
-    }
-    true
+    (0..rows).all(|i| row(s, o + mask.len() * i, i < used, mask))
 }
 
 // Of one peer's rows, one for each period: where the table has the peer, whether each row is as above;
@@ -63,12 +54,6 @@ pub(crate) fn each_table(s: &[u8], o: usize, n: usize, used: usize, mask: &[u8])
     requires { (length mask.now ≤ 128) × (o + peers * (periods * length mask.now) ≤ length s.now) }
     ensures { result ≡ tables_masked n used s.now o mask.now }
 {
-    let mut j = 0;
-    while j < PEERS {
-        if !table(s, o + PERIODS * mask.len() * j, j < n, used, mask) {
-            return false;
-        }
-        j += 1;
-    }
-    true
+    let size = PERIODS * mask.len();
+    (0..PEERS).all(|j| table(s, o + size * j, j < n, used, mask))
 }

@@ -5,6 +5,4 @@ pub mod Keeps
 pub mod Whatever
 pub mod Heard
 pub mod Quorum
-pub mod Judged
-pub mod Named
 pub mod Whole

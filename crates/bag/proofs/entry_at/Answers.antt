@@ -6,4 +6,4 @@ pub returns-then-e-ge-ENTRIES : goal.returns-then-e-ge-ENTRIES
 returns-then-e-ge-ENTRIES c = search entry_past
 
 pub returns : goal.returns
-returns c = search read_entry
+returns c = read_entry _ _ _ _ _ c.requires c.start_of-o.ensures c.load-board.ensures c.entry_of.ensures

@@ -1,16 +1,17 @@
--- No entry passed is x; so x is found here, or it is not in the bag.
-use borrow.Author.Rules.{rules}
-use Rattle.bag.proofs.Search.{missed_none, missed_more, found, not_found}
+-- By `in_bag`: an entry of the bag is x.
+use Rattle.std.proofs.Common.{rules}
+use mathlib.Core.Path.{ap, ◌∙◌}
+use borrow.Author.Tests.{tests}
+use Rattle.base.specs.Below.{any}
+use Rattle.base.proofs.Ranges.{any_in_range}
+use Rattle.rules.specs.Bag.{entry_at as nth, same_entry}
+use Rattle.state.specs.Contents.{contents}
+use Rattle.bag.proofs.Search.{in_bag}
 use Rattle.bag.proofs.is_in.Goals as goal
 
-pub loop-e-init : goal.loop-e-init
-loop-e-init c = (search rules, search missed_none)
-
-pub returns-then-is_entry : goal.returns-then-is_entry
-returns-then-is_entry c = search found
-
-pub loop-e-preserved : goal.loop-e-preserved
-loop-e-preserved c = (search rules, search missed_more)
-
 pub returns : goal.returns
-returns c = search not_found
+returns c =
+    let s = c.args.s.now in
+    any_in_range (λ e. same_entry c.args.x (nth (contents s).bag e)) _ c.any.ensures.ran (λ x b q k. search (rules, tests))
+    ∙ ap (λ n. any n (λ e. same_entry c.args.x (nth (contents s).bag e))) c.bag_len.ensures.0
+    ∙ in_bag c.args.x (contents s).bag

@@ -3,14 +3,11 @@ use native.Mathlib.Omega.{arith}
 use Rattle.bag.proofs.Search.{entry_few, entry_inside, signer_is}
 use Rattle.bag.proofs.signer_at.Goals as goal
 
-pub overflow_mul-e : goal.overflow_mul-e
-overflow_mul-e c = let a = c.requires in record { fits = omega (arith, entry_few _ _ a.0 a.1) }
-
-pub overflow_add-e : goal.overflow_add-e
-overflow_add-e c = let a = c.requires in record { fits = omega (arith, entry_few _ _ a.0 a.1) }
+pub start_of-requires : goal.start_of-requires
+start_of-requires c = search entry_few
 
 pub written_signer-requires : goal.written_signer-requires
-written_signer-requires c = search entry_inside
+written_signer-requires c = omega (arith, c.start_of.ensures, entry_inside _ _ c.requires.0 c.requires.1)
 
 pub returns : goal.returns
-returns c = search signer_is
+returns c = signer_is _ _ _ _ _ _ _ c.requires.0 c.requires.1 c.start_of.ensures c.written_signer.ensures

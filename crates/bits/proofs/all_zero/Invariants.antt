@@ -1,4 +1,3 @@
-use Prim.Native.Nat.{◌≤◌, ◌-◌}
 use mathlib.Core.Path.{◌≡◌}
 use lib.Dec.{eqb}
 use Rattle.base.specs.Below.{every}
@@ -6,7 +5,4 @@ use Rattle.bits.proofs.Zeros.{zero_byte}
 use Rattle.bits.proofs.all_zero.Given as goal
 
 abbrev pub invariant-loop-i : goal.invariant-loop-i
-invariant-loop-i l = (l.i ≤ l.n) × (eqb l.sum 0 ≡ every l.i (zero_byte l.s l.o))
-
-abbrev pub decreases-loop-i : goal.decreases-loop-i
-decreases-loop-i l = l.n - l.i
+invariant-loop-i l = eqb l.sum 0 ≡ every l.i (zero_byte l.s l.o)

@@ -5,5 +5,5 @@ use Rattle.bits.proofs.write.Goals as goal
 pub returns-then-v : goal.returns-then-v
 returns-then-v c = search is_set
 
-pub returns : goal.returns
-returns c = search is_cleared
+pub returns-else-v : goal.returns-else-v
+returns-else-v c = search is_cleared

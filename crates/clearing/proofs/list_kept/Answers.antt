@@ -1,20 +1,17 @@
 -- The entries passed gave the numbers so far.
 use native.Mathlib.Omega.{arith}
-use borrow.Author.Rules.{rules}
-use Rattle.clearing.proofs.Listing.{listed_none, listed_more, listed_all}
+use mathlib.Core.Path.{ap, ◌∙◌}
+use Rattle.base.specs.Bits.{digit}
+use Rattle.clearing.proofs.Listing.{as_digit, listed_none, listed_more, listed_all}
 use Rattle.clearing.proofs.list_kept.Goals as goal
 
 pub loop-e-init : goal.loop-e-init
-loop-e-init c = (search rules, search listed_none)
-
-pub stays-w-requires : goal.stays-w-requires
-stays-w-requires c =
-    (c.requires.0, omega (arith, c.bag_len-n.ensures))
+loop-e-init c = search listed_none
 
 pub loop-e-preserved : goal.loop-e-preserved
 loop-e-preserved c =
-    let few = c.bag_len-n.ensures in
-    (search rules, listed_more _ _ _ _ _ c.loop-e.invariant.1 (omega (arith, few)) (omega (arith, few)) c.stays-w.ensures.0)
+    let few = c.bag_len-e-end.ensures in
+    listed_more _ _ _ _ _ c.loop-e.invariant (omega (arith, few)) (omega (arith, few)) (as_digit _ ∙ ap digit c.stays.ensures)
 
 pub returns : goal.returns
 returns c = search listed_all

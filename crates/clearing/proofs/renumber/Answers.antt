@@ -4,10 +4,10 @@ use Rattle.clearing.proofs.Afresh.{renumbered_none, renumbered_more, renumbered_
 use Rattle.clearing.proofs.renumber.Goals as goal
 
 pub loop-b-init : goal.loop-b-init
-loop-b-init c = (search rules, search renumbered_none)
+loop-b-init c = search renumbered_none
 
 pub loop-b-preserved : goal.loop-b-preserved
-loop-b-preserved c = (search rules, search renumbered_more)
+loop-b-preserved c = search renumbered_more
 
 pub returns : goal.returns
-returns c = search renumbered_all
+returns c = search (renumbered_all, rules)

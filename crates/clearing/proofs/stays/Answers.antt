@@ -1,8 +1,7 @@
 -- The two bytes that are read tell a hash of the period.
 use native.Mathlib.Omega.{arith}
 use Rattle.bag.proofs.Search.{entry_few}
-use borrow.Author.Rules.{rules}
-use Rattle.clearing.proofs.Listing.{period_inside, kind_inside, other_period, other_kind, it_goes}
+use Rattle.clearing.proofs.Listing.{period_inside, kind_inside, other_period, its_period}
 use Rattle.clearing.proofs.stays.Goals as goal
 
 pub overflow_mul-o : goal.overflow_mul-o
@@ -17,14 +16,11 @@ overflow_add-o-2 c = let a = c.requires in record { fits = omega (arith, entry_f
 pub bounds-s-o : goal.bounds-s-o
 bounds-s-o c = search period_inside
 
+pub bounds-s-o-else-s-o : goal.bounds-s-o-else-s-o
+bounds-s-o-else-s-o c = search kind_inside
+
 pub returns-then-s-o : goal.returns-then-s-o
-returns-then-s-o c = (search other_period, search rules)
+returns-then-s-o c = other_period _ _ _ c.requires.0 c.requires.1 c.if-s-o.true
 
-pub bounds-s-o-2 : goal.bounds-s-o-2
-bounds-s-o-2 c = search kind_inside
-
-pub returns-then-s-o-ne-HASH : goal.returns-then-s-o-ne-HASH
-returns-then-s-o-ne-HASH c = (search other_kind, search rules)
-
-pub returns : goal.returns
-returns c = (search it_goes, search rules)
+pub returns-else-s-o : goal.returns-else-s-o
+returns-else-s-o c = its_period _ _ _ c.requires.0 c.requires.1 c.if-s-o.false

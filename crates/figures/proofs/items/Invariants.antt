@@ -1,4 +1,4 @@
-use Prim.Native.Nat.{◌*◌, ◌≤◌, ◌-◌}
+use Prim.Native.Nat.{◌*◌, ◌≤◌}
 use mathlib.Core.Path.{◌≡◌}
 use Rattle.base.specs.Sums.{sum}
 use Rattle.rules.specs.Bag.{entry_at}
@@ -8,7 +8,4 @@ use Rattle.figures.proofs.items.Given as goal
 
 abbrev pub invariant-loop-e : goal.invariant-loop-e
 invariant-loop-e l =
-    (l.e ≤ l.n) × (l.count ≤ 64 * l.e) × (l.count ≡ sum l.e (λ i. entry_items l.h.items (entry_at (state_on l.s).bag i)))
-
-abbrev pub decreases-loop-e : goal.decreases-loop-e
-decreases-loop-e l = l.n - l.e
+    (l.count ≤ 64 * l.e) × (l.count ≡ sum l.e (λ i. entry_items l.h.items (entry_at (state_on l.s).bag i)))

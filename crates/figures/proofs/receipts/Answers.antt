@@ -8,16 +8,15 @@ use Rattle.figures.proofs.receipts.Goals as goal
 
 pub loop-p-init : goal.loop-p-init
 unfolding receipt_count
-loop-p-init c = (omega arith, omega arith, sum-none _)
+loop-p-init c = (omega arith, sum-none _)
 
 pub loop-p-preserved : goal.loop-p-preserved
 unfolding receipt_count receipted_of
 loop-p-preserved c =
     let l = c.loop-p in
-    let few = c.requires.1 in
-    let one = packed_counted _ _ few c.receipted_in.ensures c.count_items-count.ensures.0 in
-    (omega arith, omega arith, sum_more _ l.p _ _ l.invariant.2 one)
+    let one = packed_counted _ _ c.requires.1 c.receipted_in.ensures c.count_items-count.ensures.0 in
+    (omega arith, sum_more _ l.p _ _ l.invariant.1 one)
 
 pub returns : goal.returns
 unfolding receipt_count
-returns c = let l = c.loop-p in sum-all _ l.p _ _ l.invariant.0 c.loop-p-test.false l.invariant.2
+returns c = let l = c.loop-p in sum-all _ l.p _ _ (omega arith) (omega arith) l.invariant.1

@@ -1,4 +1,4 @@
-use Prim.Native.Nat.{◌*◌, ◌≤◌, ◌-◌}
+use Prim.Native.Nat.{◌*◌, ◌≤◌}
 use mathlib.Core.Path.{◌≡◌}
 use Rattle.view.specs.View.{state_on}
 use Rattle.figures.specs.Totals.{receipt_count}
@@ -6,7 +6,4 @@ use Rattle.figures.proofs.receipts.Given as goal
 
 abbrev pub invariant-loop-p : goal.invariant-loop-p
 invariant-loop-p l =
-    (l.p ≤ l.periods) × (l.count ≤ 64 * l.p) × (l.count ≡ receipt_count l.p l.h.items (state_on l.s).receipted)
-
-abbrev pub decreases-loop-p : goal.decreases-loop-p
-decreases-loop-p l = l.periods - l.p
+    (l.count ≤ 64 * l.p) × (l.count ≡ receipt_count l.p l.h.items (state_on l.s).receipted)

@@ -1,16 +1,9 @@
 -- A sum of numbers is 0 where each of them is.
-use native.Mathlib.Omega.{arith}
-use Rattle.form.proofs.Ops.{some_not, last_one}
+use Prim.Native.Nat.{◌+◌}
+use Rattle.rules.specs.Form.{all_zero}
+use Rattle.form.proofs.Ops.{two}
 use Rattle.form.proofs.all_zero.Goals as goal
 
-pub returns-then-a-ne0 : goal.returns-then-a-ne0
-returns-then-a-ne0 c = some_not _ _ _ _ (omega arith)
-
-pub returns-then-b-ne0 : goal.returns-then-b-ne0
-returns-then-b-ne0 c = some_not _ _ _ _ (omega arith)
-
-pub returns-then-c-ne0 : goal.returns-then-c-ne0
-returns-then-c-ne0 c = some_not _ _ _ _ (omega arith)
-
 pub returns : goal.returns
-returns c = last_one _ _ _ _ (omega arith)
+unfolding all_zero
+returns c = let x = c.args in rw (← two (x.a + x.b + x.c) x.board, ← two (x.a + x.b) x.c, ← two x.a x.b) c.eq.ensures

@@ -1,8 +1,9 @@
--- By `promised`.
-use Rattle.gain_line.proofs.Lines.{promised}
+-- The length of what was written.
+use Rattle.gain_line.proofs.Lines.{long}
 use Rattle.gain_line.proofs.tell.Goals as goal
 
-pub returns : goal.returns
-returns c =
-    let r = promised _ _ _ c.well_formed.1.0.0 c.put_told.ensures in
-    record { value = r.0; upper_bound = r.1.0; out_after = r.1.1 }
+pub returns-clause-value : goal.returns-clause-value
+returns-clause-value c = (long _ c.new-printer.ensures.at c.put_told.ensures).0
+
+pub returns-clause-upper_bound : goal.returns-clause-upper_bound
+returns-clause-upper_bound c = (long _ c.new-printer.ensures.at c.put_told.ensures).1

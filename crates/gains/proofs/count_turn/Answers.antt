@@ -1,12 +1,9 @@
--- The back is another peer's, one too many, or counted.
-use Rattle.gains.proofs.Counted.{no_turn, turns_over, one_turn}
+-- The back is another peer's, or counted up to 8.
+use Rattle.gains.proofs.Counted.{no_turn, one_turn}
 use Rattle.gains.proofs.count_turn.Goals as goal
 
-pub returns-then-byte_at-ne11 : goal.returns-then-byte_at-ne11
-returns-then-byte_at-ne11 c = search no_turn
+pub returns-then-byte_at-eq11 : goal.returns-then-byte_at-eq11
+returns-then-byte_at-eq11 c = search one_turn
 
-pub returns-then-had-ge8 : goal.returns-then-had-ge8
-returns-then-had-ge8 c = search turns_over
-
-pub returns : goal.returns
-returns c = search one_turn
+pub returns-else-byte_at-eq11 : goal.returns-else-byte_at-eq11
+returns-else-byte_at-eq11 c = search no_turn

@@ -11,12 +11,12 @@ returns-then-h-p c =
 pub put_board-requires : goal.put_board-requires
 put_board-requires c = (search rules, search items-read)
 
-pub returns-in-Items : goal.returns-in-Items
-returns-in-Items c =
-    sheet_shown _ _ _ c.requires c.if-h-p.false c.board_of.ensures c.in-Items.is
+pub returns-in-Some : goal.returns-in-Some
+returns-in-Some c =
+    sheet_shown _ _ _ c.requires c.if-h-p.false c.board_of.ensures c.in-Some.is
     c.put_board.ensures
 
-pub returns-in-Nothing : goal.returns-in-Nothing
-returns-in-Nothing c =
-    no_board_lem _ _ _ c.requires c.if-h-p.false c.board_of.ensures c.in-Nothing.is
-    c.put_refused-in-Nothing.ensures
+pub returns-in-None : goal.returns-in-None
+returns-in-None c =
+    no_board_lem _ _ _ c.requires c.if-h-p.false c.board_of.ensures c.in-None.is
+    c.put_refused-in-None.ensures

@@ -1,7 +1,6 @@
--- The threshold is judged by the least one for the weight.
-use Rattle.header.specs.Header.{threshold_ok}
+-- The threshold is judged by the least one for the weight: by `judged`.
+use Rattle.header.proofs.Fields.{judged}
 use Rattle.header.proofs.threshold_ok.Goals as goal
 
 pub returns : goal.returns
-unfolding threshold_ok
-returns c = rw c.least.ensures at c.is_between.ensures
+returns c = search judged

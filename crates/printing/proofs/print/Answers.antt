@@ -13,4 +13,4 @@ pub put_sheet-requires : goal.put_sheet-requires
 put_sheet-requires c = (search rules, search few_items, search rules)
 
 pub returns : goal.returns
-returns c = search printed
+returns c = printed _ _ _ _ c.measure-e.ensures c.first_offset.ensures c.if-sheet-length.false (search rules) c.new.ensures.out c.new.ensures.at c.put_sheet.ensures (search rules)

@@ -9,11 +9,8 @@ returns-then-h-p c = no_period_lem _ _ _ _ c.requires c.if-h-p.true
 pub print-requires : goal.print-requires
 print-requires c = (search rules, search items-read)
 
-pub returns-in-Items : goal.returns-in-Items
-returns-in-Items c =
-    ended _ _ _ _ c.requires c.if-h-p.false c.board_of.ensures c.in-Items.is
-    c.print.ensures
+pub returns-in-Some : goal.returns-in-Some
+returns-in-Some c = ended _ _ _ _ c.requires c.if-h-p.false c.board_of.ensures c.in-Some.is c.print.ensures
 
-pub returns-in-Nothing : goal.returns-in-Nothing
-returns-in-Nothing c =
-    no_board_lem _ _ _ _ c.requires c.if-h-p.false c.board_of.ensures c.in-Nothing.is
+pub returns-in-None : goal.returns-in-None
+returns-in-None c = no_board_lem _ _ _ _ c.requires c.if-h-p.false c.board_of.ensures c.in-None.is

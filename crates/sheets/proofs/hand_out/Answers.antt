@@ -1,9 +1,10 @@
 -- The part that was found, or none.
+use mathlib.Core.Path.{sym, ◌∙◌}
 use Rattle.sheets.proofs.Finding.{handed_part, handed_none}
 use Rattle.sheets.proofs.hand_out.Goals as goal
 
-pub returns-in-Part : goal.returns-in-Part
-returns-in-Part c = search handed_part
+pub returns-in-Ok : goal.returns-in-Ok
+returns-in-Ok c = c.part_of.ensures ∙ handed_part _ _ _ (sym c.find_item.ensures ∙ c.in-Ok.is)
 
-pub returns-in-Refused : goal.returns-in-Refused
-returns-in-Refused c = search handed_none
+pub returns-in-Err : goal.returns-in-Err
+returns-in-Err c = handed_none _ _ _ (sym c.find_item.ensures ∙ c.in-Err.is)

@@ -9,7 +9,7 @@ loop-k-init c = no_ballots _
 pub loop-k-preserved : goal.loop-k-preserved
 loop-k-preserved c =
     one_ballot _ _ _ c.loop-k.invariant (omega arith)
-    (ballot_here _ _ (omega arith) c.header_size-at.ensures c.ballot_in.ensures)
+    (ballot_here _ _ (omega arith) (simp c.pairs_of-pairs.ensures at c.ballot_in.ensures))
 
 pub returns : goal.returns
 returns c = search ballots_made

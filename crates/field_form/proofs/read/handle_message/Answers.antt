@@ -1,11 +1,12 @@
+use Rattle.std.proofs.Common.{rules}
 use Rattle.field_form.proofs.Readings.{thirteen, fetch_long, other_message}
 use Rattle.field_form.proofs.read.handle_message.Goals as goal
 
-pub returns-then-message-eq13 : goal.returns-then-message-eq13
-returns-then-message-eq13 c = search thirteen
+pub returns-in-13 : goal.returns-in-13
+returns-in-13 c = thirteen _ _ c.fields_of.ensures _ _ _ _ (search rules) c.message_op.ensures
 
-pub returns-then-message-eq-FETCH_SIZE : goal.returns-then-message-eq-FETCH_SIZE
-returns-then-message-eq-FETCH_SIZE c = search fetch_long
+pub returns-in-141 : goal.returns-in-141
+returns-in-141 c = fetch_long _ _ c.fields_of-in-141.ensures _ _ _ _ _ (search rules) c.fetch_op.ensures
 
-pub returns : goal.returns
-returns c = search other_message
+pub returns-in_default : goal.returns-in_default
+returns-in_default c = search other_message

@@ -6,20 +6,14 @@ use borrow.Author.Rules.{rules}
 use Rattle.field_guard.proofs.board.board_of.Goals as goal
 
 pub loop-i-init : goal.loop-i-init
-loop-i-init c = (search rules, search board-none)
-
-pub signers_of-requires : goal.signers_of-requires
-signers_of-requires c = search asked
+loop-i-init c = search board-none
 
 pub with_item-b-requires : goal.with_item-b-requires
 with_item-b-requires c = (search board-lt, search (asked, arith))
 
 pub loop-i-preserved : goal.loop-i-preserved
-loop-i-preserved c = (
-  search rules,
-  board_more _ _ (search rules) _ _ _ _ _ c.loop-i.invariant.1 c.signers_of.ensures
-      c.signers_reach.ensures c.with_item-b.ensures,
-)
+loop-i-preserved c = board_more _ _ (search rules) _ _ _ _ _ c.loop-i.invariant c.signers_of.ensures
+    c.reaches.ensures c.with_item-b.ensures
 
 pub returns : goal.returns
-returns c = search board-end
+returns c = board-end c.args.h c.args.s.now c.args.p _ _ (omega arith) c.loop-i.invariant

@@ -1,11 +1,7 @@
-use Prim.Native.Nat.{◌≤◌, ◌-◌}
 use mathlib.Core.Path.{◌≡◌}
 use Rattle.base.specs.Bits.{pack}
 use Rattle.field_guard.proofs.Boards.{on_board}
 use Rattle.field_guard.proofs.board.board_of.Given as goal
 
 abbrev pub invariant-loop-i : goal.invariant-loop-i
-invariant-loop-i l = (l.i ≤ l.m) × (l.b ≡ pack l.i (on_board l.h l.s l.p))
-
-abbrev pub decreases-loop-i : goal.decreases-loop-i
-decreases-loop-i l = l.m - l.i
+invariant-loop-i l = l.b ≡ pack l.i (on_board l.h l.s l.p)

@@ -1,16 +1,10 @@
-use Rattle.base.proofs.Chain.{some_none, some_more}
-use Rattle.field_guard.proofs.Fetched.{stray_end, stray_found}
-use borrow.Author.Rules.{rules}
+-- By `any_in_range`.
+use Rattle.std.proofs.Common.{rules}
+use Rattle.base.proofs.Ranges.{any_in_range}
+use Rattle.field_rules.specs.Rules.{stray_rows}
+use Rattle.field_guard.specs.Fetching.{stray_at}
 use Rattle.field_guard.proofs.fetch.stray_rows.Goals as goal
 
-pub loop-x-init : goal.loop-x-init
-loop-x-init c = (search rules, some_none _)
-
-pub returns-then-stray_at : goal.returns-then-stray_at
-returns-then-stray_at c = search stray_found
-
-pub loop-x-preserved : goal.loop-x-preserved
-loop-x-preserved c = (search rules, search some_more)
-
 pub returns : goal.returns
-returns c = search stray_end
+unfolding stray_rows stray_at
+returns c = any_in_range (stray_at c.args.h c.args.message.now) _ c.any.ensures.ran (λ x b q k. search rules)

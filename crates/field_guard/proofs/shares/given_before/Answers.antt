@@ -1,17 +1,7 @@
-use mathlib.Core.Path.{sym, ◌∙◌}
-use native.Mathlib.Omega.{arith}
-use Rattle.base.proofs.Below.{any_none, any_more, any_at, any-end}
-use borrow.Author.Rules.{rules}
+-- By `any_in_range`.
+use Rattle.std.proofs.Common.{rules}
+use Rattle.base.proofs.Ranges.{any_in_range}
 use Rattle.field_guard.proofs.shares.given_before.Goals as goal
 
-pub loop-q-init : goal.loop-q-init
-loop-q-init c = (search rules, any_none _)
-
-pub returns-then-gave : goal.returns-then-gave
-returns-then-gave c = sym (any_at _ _ _ c.loop-q-test.true (sym c.gave.ensures ∙ c.if-gave.true))
-
-pub loop-q-preserved : goal.loop-q-preserved
-loop-q-preserved c = (search rules, any_more _ _ c.loop-q.invariant.1 (sym c.gave.ensures ∙ c.if-gave.false))
-
 pub returns : goal.returns
-returns c = sym (any-end _ _ _ (omega arith) c.loop-q.invariant.1)
+returns c = any_in_range _ _ c.any.ensures.ran (λ x b q k. search rules)

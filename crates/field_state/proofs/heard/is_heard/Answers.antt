@@ -1,16 +1,8 @@
-use Rattle.base.proofs.Chain.{some_none, some_more}
-use Rattle.field_state.proofs.Hashes.{heard_found, heard_missed}
-use borrow.Author.Rules.{rules}
+-- By `any_in_range` and `heard_searched`.
+use Rattle.std.proofs.Common.{rules}
+use Rattle.base.proofs.Ranges.{any_in_range}
+use Rattle.field_state.proofs.Hashes.{heard_searched}
 use Rattle.field_state.proofs.heard.is_heard.Goals as goal
 
-pub loop-e-init : goal.loop-e-init
-loop-e-init c = (search rules, some_none _)
-
-pub returns-then-is_at : goal.returns-then-is_at
-returns-then-is_at c = search heard_found
-
-pub loop-e-preserved : goal.loop-e-preserved
-loop-e-preserved c = (search rules, search some_more)
-
 pub returns : goal.returns
-returns c = search heard_missed
+returns c = heard_searched _ _ _ _ _ c.heard_len.ensures.0 (any_in_range _ _ c.any.ensures.ran (λ e b q k. search rules))

@@ -1,19 +1,13 @@
-use Rattle.field_guard.proofs.Judged.{asked}
+use Rattle.std.proofs.Common.{rules}
+use Rattle.field_rules.specs.Rules.{field_rule}
+use Rattle.field_rules.specs.MessageBytes.{sent_bytes}
+use Rattle.field_state.specs.Parts.{with_to_back}
 use Rattle.field_steps.proofs.Whole.{unsent, sent}
-use Rattle.field_steps.proofs.Did.{back_fits, did_back, sent_back, own_read}
 use Rattle.field_steps.proofs.step.step_back.Goals as goal
 
-pub to_back-c-requires : goal.to_back-c-requires
-to_back-c-requires c = search asked
-
-pub judge_back-a-requires : goal.judge_back-a-requires
-judge_back-a-requires c = (search asked, search asked, search own_read)
-
-pub returns-then-a-ne0 : goal.returns-then-a-ne0
-returns-then-a-ne0 c = search unsent
-
-pub raise_to_back-requires : goal.raise_to_back-requires
-raise_to_back-requires c = search (asked, back_fits) depth 6
+pub returns-in_err-judge_back : goal.returns-in_err-judge_back
+returns-in_err-judge_back c = unsent _ _ _ _ _ c.from_residual.result c.from_residual.ensures.0 c.requires.0 (search rules)
 
 pub returns : goal.returns
-returns c = search (sent, did_back, sent_back) depth 6
+unfolding field_rule with_to_back sent_bytes
+returns c = sent _ _ _ _ _ _ _ _ c.in_ok-judge_back.ensures c.raise_to_back.ensures (search rules) (search rules)

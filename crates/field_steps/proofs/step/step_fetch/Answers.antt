@@ -1,13 +1,12 @@
-use Rattle.field_guard.proofs.Judged.{asked}
-use Rattle.field_steps.proofs.Whole.{refused, handled}
-use Rattle.field_steps.proofs.Did.{may_fetch, did_fetch}
+use Rattle.std.proofs.Common.{rules}
+use Rattle.field_guard.proofs.Fetched.{rows_all}
+use Rattle.field_rules.specs.Rules.{field_rule}
+use Rattle.field_steps.proofs.Whole.{refused, done}
 use Rattle.field_steps.proofs.step.step_fetch.Goals as goal
 
-pub returns-then-a-ne0 : goal.returns-then-a-ne0
-returns-then-a-ne0 c = search refused
-
-pub add_rows-requires : goal.add_rows-requires
-add_rows-requires c = search (asked, may_fetch) depth 6
+pub returns-in_err-judge_fetch : goal.returns-in_err-judge_fetch
+returns-in_err-judge_fetch c = refused _ _ _ _ _ c.from_residual.result c.from_residual.ensures.0 c.requires (search rules)
 
 pub returns : goal.returns
-returns c = search (handled, did_fetch) depth 6
+unfolding field_rule
+returns c = done _ _ _ _ _ _ _ c.in_ok-judge_fetch.ensures c.add_rows.ensures (rows_all _ _ _)

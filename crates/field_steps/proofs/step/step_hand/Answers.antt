@@ -1,16 +1,12 @@
-use Rattle.field_guard.proofs.Judged.{asked}
-use Rattle.field_steps.proofs.Whole.{refused, handled}
-use Rattle.field_steps.proofs.Did.{may_hand, did_hand}
+use Rattle.std.proofs.Common.{rules}
+use Rattle.field_rules.specs.Rules.{field_rule}
+use Rattle.field_state.specs.Parts.{with_held}
+use Rattle.field_steps.proofs.Whole.{refused, done}
 use Rattle.field_steps.proofs.step.step_hand.Goals as goal
 
-pub returns-then-a-ne0 : goal.returns-then-a-ne0
-returns-then-a-ne0 c = search refused
-
-pub current-p-requires : goal.current-p-requires
-current-p-requires c = search asked
-
-pub hold-requires : goal.hold-requires
-hold-requires c = search (asked, may_hand) depth 6
+pub returns-in_err-judge_hand : goal.returns-in_err-judge_hand
+returns-in_err-judge_hand c = refused _ _ _ _ _ c.from_residual.result c.from_residual.ensures.0 c.requires (search rules)
 
 pub returns : goal.returns
-returns c = search (handled, did_hand) depth 6
+unfolding field_rule with_held
+returns c = done _ _ _ _ _ _ _ c.in_ok-judge_hand.ensures c.hold.ensures (search rules)

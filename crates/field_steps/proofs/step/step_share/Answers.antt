@@ -1,16 +1,13 @@
-use Rattle.field_guard.proofs.Judged.{asked}
+use Rattle.std.proofs.Common.{rules}
+use Rattle.field_rules.specs.Rules.{field_rule}
+use Rattle.field_rules.specs.MessageBytes.{sent_bytes}
+use Rattle.field_state.specs.Parts.{with_given}
 use Rattle.field_steps.proofs.Whole.{unsent, sent}
-use Rattle.field_steps.proofs.Did.{may_share, did_share, sent_share}
 use Rattle.field_steps.proofs.step.step_share.Goals as goal
 
-pub returns-then-a-ne0 : goal.returns-then-a-ne0
-returns-then-a-ne0 c = search unsent
-
-pub current-p-requires : goal.current-p-requires
-current-p-requires c = search asked
-
-pub give-requires : goal.give-requires
-give-requires c = search (asked, may_share) depth 6
+pub returns-in_err-judge_share : goal.returns-in_err-judge_share
+returns-in_err-judge_share c = unsent _ _ _ _ _ c.from_residual.result c.from_residual.ensures.0 c.requires.0 (search rules)
 
 pub returns : goal.returns
-returns c = search (sent, did_share, sent_share) depth 6
+unfolding field_rule with_given sent_bytes
+returns c = sent _ _ _ _ _ _ _ _ c.in_ok-judge_share.ensures c.give.ensures (search rules) (search rules)

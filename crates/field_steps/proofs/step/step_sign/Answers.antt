@@ -1,16 +1,13 @@
-use Rattle.field_guard.proofs.Judged.{asked}
+use Rattle.std.proofs.Common.{rules}
+use Rattle.field_rules.specs.Rules.{field_rule}
+use Rattle.field_rules.specs.MessageBytes.{sent_bytes}
+use Rattle.field_state.specs.Parts.{with_known}
 use Rattle.field_steps.proofs.Whole.{unsent, sent}
-use Rattle.field_steps.proofs.Did.{may_sign, did_sign, sent_sign}
 use Rattle.field_steps.proofs.step.step_sign.Goals as goal
 
-pub returns-then-a-ne0 : goal.returns-then-a-ne0
-returns-then-a-ne0 c = search unsent
-
-pub current-p-requires : goal.current-p-requires
-current-p-requires c = search asked
-
-pub know-requires : goal.know-requires
-know-requires c = search (asked, may_sign) depth 6
+pub returns-in_err-judge_sign : goal.returns-in_err-judge_sign
+returns-in_err-judge_sign c = unsent _ _ _ _ _ c.from_residual.result c.from_residual.ensures.0 c.requires.0 (search rules)
 
 pub returns : goal.returns
-returns c = search (sent, did_sign, sent_sign) depth 6
+unfolding field_rule with_known sent_bytes
+returns c = sent _ _ _ _ _ _ _ _ c.in_ok-judge_sign.ensures c.know.ensures (search rules) (search rules)

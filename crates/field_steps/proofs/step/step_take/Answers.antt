@@ -1,13 +1,12 @@
-use Rattle.field_guard.proofs.Judged.{asked}
-use Rattle.field_steps.proofs.Whole.{refused, handled}
-use Rattle.field_steps.proofs.Did.{may_take, did_take}
+use Rattle.std.proofs.Common.{rules}
+use Rattle.field_rules.specs.Rules.{field_rule}
+use Rattle.field_state.specs.Parts.{with_known}
+use Rattle.field_steps.proofs.Whole.{refused, done}
 use Rattle.field_steps.proofs.step.step_take.Goals as goal
 
-pub returns-then-a-ne0 : goal.returns-then-a-ne0
-returns-then-a-ne0 c = search refused
-
-pub know-requires : goal.know-requires
-know-requires c = search (asked, may_take) depth 6
+pub returns-in_err-judge_take : goal.returns-in_err-judge_take
+returns-in_err-judge_take c = refused _ _ _ _ _ c.from_residual.result c.from_residual.ensures.0 c.requires (search rules)
 
 pub returns : goal.returns
-returns c = search (handled, did_take) depth 6
+unfolding field_rule with_known
+returns c = done _ _ _ _ _ _ _ c.in_ok-judge_take.ensures c.know.ensures (search rules)

@@ -1,4 +1,3 @@
-use Prim.Native.Nat.{◌≤◌, ◌-◌}
 use mathlib.Core.Path.{◌≡◌}
 use lib.ListN.{length}
 use Rattle.base.specs.Tab.{FilledTo}
@@ -7,7 +6,4 @@ use Rattle.gains.proofs.different.join_steps.Given as goal
 
 abbrev pub invariant-loop-k : goal.invariant-loop-k
 invariant-loop-k l =
-    (l.k ≤ l.n) × (length l.links ≡ 8192) × Chains l.s l.k l.heads l.links × FilledTo 0 8192 (new_digit l.s) l.k l.fresh
-
-abbrev pub decreases-loop-k : goal.decreases-loop-k
-decreases-loop-k l = l.n - l.k
+    (length l.links ≡ 8192) × Chains l.s l.k l.heads l.links × FilledTo 0 8192 (new_digit l.s) l.k l.fresh

@@ -5,11 +5,11 @@ use Rattle.gains.proofs.different.strike.Goals as goal
 pub returns-then-byte_at-ne16 : goal.returns-then-byte_at-ne16
 returns-then-byte_at-ne16 c = search fresh-other
 
-pub returns-then-at-eq0 : goal.returns-then-at-eq0
-returns-then-at-eq0 c = search fresh-not-found
+pub bounds-fresh-i : goal.bounds-fresh-i
+bounds-fresh-i c = found-place _ _ _ _ _ c.requires.2 c.in-Some.ensures
 
-pub bounds-fresh-at : goal.bounds-fresh-at
-bounds-fresh-at c = search found-place
+pub returns-in-Some : goal.returns-in-Some
+returns-in-Some c = fresh_struck _ _ _ _ _ c.requires.2 c.in-Some.ensures
 
-pub returns : goal.returns
-returns c = search fresh_struck
+pub returns-in_default : goal.returns-in_default
+returns-in_default c = fresh-not-found _ _ _ _ _ c.requires.2 c.in_default.ensures

@@ -1,16 +1,11 @@
--- None of the peers passed waits.
-use borrow.Author.Rules.{rules}
-use Rattle.guard.proofs.Waiting.{none_waits, one_waits_not, one_waits, nobody_waits}
+-- By `any_in_range`.
+use Rattle.std.proofs.Common.{rules}
+use borrow.Author.Tests.{tests}
+use Rattle.base.proofs.Ranges.{any_in_range}
+use Rattle.base.proofs.Tests.{read-tests}
+use Rattle.rules.specs.Backed.{unbacked}
 use Rattle.guard.proofs.backed.unbacked.Goals as goal
 
-pub loop-k-init : goal.loop-k-init
-loop-k-init c = (search rules, search none_waits)
-
-pub returns-then-yet_to_back : goal.returns-then-yet_to_back
-returns-then-yet_to_back c = search one_waits
-
-pub loop-k-preserved : goal.loop-k-preserved
-loop-k-preserved c = (search rules, search one_waits_not)
-
 pub returns : goal.returns
-returns c = search (nobody_waits, rules)
+unfolding unbacked
+returns c = any_in_range _ _ c.any.ensures.ran (λ x b q k. search (rules, tests, read-tests))

@@ -5,4 +5,4 @@ use Rattle.guard.proofs.quorum.few_signers.Goals as goal
 pub returns : goal.returns
 returns c =
     signers_few _ _ c.requires _ _ _ _ _ c.current_of.ensures c.signers_of.ensures
-    c.signers_reach.ensures
+    c.reaches.ensures

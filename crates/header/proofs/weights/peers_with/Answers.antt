@@ -4,28 +4,26 @@ use native.Mathlib.Omega.{arith}
 use Rattle.base.proofs.Masks.{bits_none, bits_out, bits_end}
 use Rattle.header.specs.Header.{has, peers_with}
 use Rattle.header.proofs.Reach.{next_peer}
+use Rattle.header.proofs.weights.peers_with.Goals.{then-has, else-has}
 use Rattle.header.proofs.weights.peers_with.Goals as goal
 
 pub loop-k-init : goal.loop-k-init
-loop-k-init c = (omega arith, bits_none _)
-
-pub loop-k-preserved-then-has : goal.loop-k-preserved-then-has
-loop-k-preserved-then-has c =
-    let l = c.loop-k in
-    let count = c.weight_count-count.ensures.1 in
-    let feature = c.args.feature in
-    let passes = sym (c.has.ensures ∙ ap (has feature) c.weight_in.ensures) ∙ c.if-has.true in
-    (omega arith, c.with_peer-set.ensures ∙ next_peer _ l.k (omega (arith, count)) l.invariant.1 passes)
+loop-k-init c = bits_none _
 
 pub loop-k-preserved : goal.loop-k-preserved
 loop-k-preserved c =
     let l = c.loop-k in
+    let count = c.weight_count-count.ensures.1 in
     let feature = c.args.feature in
-    let fails = sym (c.has.ensures ∙ ap (has feature) c.weight_in.ensures) ∙ c.if-has.false in
-    (omega arith, l.invariant.1 ∙ sym (bits_out _ l.k fails))
+    let tested = sym (c.has.ensures ∙ ap (has feature) c.weight_in.ensures) in
+    elim c.if-has.branch [
+      | then-has w ↦
+          w.set-is ∙ w.with_peer-set.ensures ∙ next_peer _ l.k (omega (arith, count)) l.invariant (tested ∙ w.if-has.true)
+      | else-has w ↦ w.set-is ∙ l.invariant ∙ sym (bits_out _ l.k (tested ∙ w.if-has.false))
+    ]
 
 pub returns : goal.returns
 unfolding peers_with
 returns c =
     let l = c.loop-k in
-    bits_end _ l.k _ (omega (arith, c.weight_count-count.ensures.0)) l.invariant.1
+    bits_end _ l.k _ (omega (arith, c.weight_count-count.ensures.0)) l.invariant

@@ -1,4 +1,3 @@
-use Prim.Native.Nat.{◌≤◌, ◌-◌}
 use mathlib.Core.Path.{◌≡◌}
 use lib.ListN.{drop}
 use Rattle.rules.specs.Bag.{boards_in}
@@ -7,7 +6,4 @@ use Rattle.printing.specs.Board.{boards_on, published}
 use Rattle.printing.proofs.board.board_of.Given as goal
 
 abbrev pub invariant-loop-e : goal.invariant-loop-e
-invariant-loop-e l = (l.e ≤ l.n) × (published (boards_in (drop l.e (bag_on l.s))) l.p ≡ published (boards_on l.s) l.p)
-
-abbrev pub decreases-loop-e : goal.decreases-loop-e
-decreases-loop-e l = l.n - l.e
+invariant-loop-e l = published (boards_in (drop l.e (bag_on l.s))) l.p ≡ published (boards_on l.s) l.p

@@ -2,8 +2,8 @@
 use Rattle.printing.proofs.Measuring.{text_written, text_left_out}
 use Rattle.printing.proofs.parts.put_text_on.Goals as goal
 
-pub returns-then-has_bit : goal.returns-then-has_bit
-returns-then-has_bit c = search text_written
+pub returns-then-not-has_bit : goal.returns-then-not-has_bit
+returns-then-not-has_bit c = search text_left_out
 
 pub returns : goal.returns
-returns c = search text_left_out
+returns c = search text_written

@@ -1,5 +1,5 @@
--- The last end of the header's own pairs.
+-- The last end of the table's own pairs.
 use Rattle.rehearsal.proofs.input.table_end.Goals as goal
 
 pub returns : goal.returns
-returns c = simp (c.items.ensures, c.header_size.ensures) at c.last_end.ensures
+returns c = simp c.pairs_of.ensures at c.last_end.ensures

@@ -1,17 +1,11 @@
 -- The pairs are judged first, and then the end.
-use Rattle.base.proofs.Returns.{fails, holds}
 use Rattle.rehearsal.specs.Input.{table_there}
-use mathlib.Core.Path.{ap}
-use mathlib.Core.Bool.{not}
 use Rattle.rehearsal.proofs.input.table_there.Goals as goal
 
-pub returns-then-not-pairs_fit : goal.returns-then-not-pairs_fit
+pub returns-then-fit : goal.returns-then-fit
 unfolding table_there
-returns-then-not-pairs_fit c = fails _ (simp (c.items.ensures, c.header_size.ensures) at
-    c.pairs_fit.ensures) (ap not c.if-not-pairs_fit.true)
+returns-then-fit c = rw (← simp c.pairs_of.ensures at c.fit.ensures, c.if-fit.true) (simp c.table_end.ensures)
 
-pub returns : goal.returns
+pub returns-else-fit : goal.returns-else-fit
 unfolding table_there
-returns c =
-    holds _ _ (simp (c.items.ensures, c.header_size.ensures) at c.pairs_fit.ensures)
-    (ap not c.if-not-pairs_fit.false) (simp c.table_end.ensures)
+returns-else-fit c = rw (← simp c.pairs_of.ensures at c.fit.ensures, c.if-fit.false)

@@ -1,9 +1,8 @@
 -- The parts of the line, one after the other.
-use Rattle.text.proofs.Writing.{◌▷◌}
+use Rattle.text.proofs.Puts.{◌▷◌}
 use Rattle.report.specs.Lines.{board_line}
 use Rattle.report.proofs.lines.put_board.Goals as goal
 
 pub returns : goal.returns
 unfolding board_line
-returns c =
-    c.put_word-a.ensures ▷ c.put_small-b.ensures ▷ c.put_items-c.ensures ▷ c.put_byte.ensures
+returns c = c.word.ensures ▷ c.field.ensures ▷ c.put_items.ensures ▷ c.byte.ensures

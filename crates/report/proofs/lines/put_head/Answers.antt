@@ -1,10 +1,8 @@
 -- The parts of the line, one after the other.
-use Rattle.text.proofs.Writing.{◌▷◌}
+use Rattle.text.proofs.Puts.{◌▷◌}
 use Rattle.report.specs.Lines.{head_line}
 use Rattle.report.proofs.lines.put_head.Goals as goal
 
 pub returns : goal.returns
 unfolding head_line
-returns c =
-    c.put_word-a.ensures ▷ c.put_small-b.ensures ▷ c.put_word-c.ensures ▷ c.put_small-d.ensures ▷ c.put_word-e.ensures
-    ▷ c.put_small-f.ensures ▷ c.put_byte.ensures
+returns c = c.word.ensures ▷ c.field.ensures ▷ c.word-2.ensures ▷ c.field-2.ensures ▷ c.word-3.ensures ▷ c.field-3.ensures ▷ c.byte.ensures

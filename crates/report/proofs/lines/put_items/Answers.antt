@@ -1,16 +1,9 @@
 -- The items passed are written.
-use borrow.Author.Rules.{rules}
-use Rattle.text.proofs.Writing.{each_none, each_more, each_all}
+use Rattle.text.proofs.Puts.{each_none, each_more}
 use Rattle.report.proofs.lines.put_items.Goals as goal
 
 pub loop-x-init : goal.loop-x-init
-loop-x-init c = (search rules, each_none _)
+loop-x-init c = each_none _
 
 pub loop-x-preserved : goal.loop-x-preserved
-loop-x-preserved c = (search rules, search each_more depth 6)
-
-pub shape_of-out : goal.shape_of-out
-shape_of-out c = c.loop-x.invariant.1.long
-
-pub returns : goal.returns
-returns c = each_all _ _ _ c.loop-x.invariant.0 c.loop-x-test.false c.loop-x.invariant.1
+loop-x-preserved c = search each_more depth 6

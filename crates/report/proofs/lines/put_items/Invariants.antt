@@ -1,10 +1,6 @@
-use Prim.Native.Nat.{◌≤◌, ◌-◌}
-use Rattle.text.specs.Wrote.{Wrote, each}
+use Rattle.text.specs.Wrote.{Put, each}
 use Rattle.report.specs.Lines.{board_item}
 use Rattle.report.proofs.lines.put_items.Given as goal
 
 abbrev pub invariant-loop-x : goal.invariant-loop-x
-invariant-loop-x l = (l.x ≤ l.m) × Wrote l.initial.out l.at (each (board_item l.board) l.x) l.out l.to
-
-abbrev pub decreases-loop-x : goal.decreases-loop-x
-decreases-loop-x l = l.m - l.x
+invariant-loop-x l = Put l.initial.out (each (board_item l.board) l.x) l.out

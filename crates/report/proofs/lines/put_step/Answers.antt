@@ -1,9 +1,8 @@
 -- The parts of the line, one after the other.
-use Rattle.text.proofs.Writing.{◌▷◌}
+use Rattle.text.proofs.Puts.{◌▷◌}
 use Rattle.report.specs.Lines.{step_line}
 use Rattle.report.proofs.lines.put_step.Goals as goal
 
 pub returns : goal.returns
 unfolding step_line
-returns c =
-    c.put_decimal-a.ensures ▷ c.put_small-b.ensures ▷ c.put_byte.ensures
+returns c = c.decimal.ensures ▷ c.field.ensures ▷ c.byte.ensures

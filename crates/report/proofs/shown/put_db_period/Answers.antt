@@ -1,21 +1,16 @@
 -- The items passed are written.
 use borrow.Author.Rules.{rules}
-use Rattle.text.proofs.Writing.{each_none, each_more, each_all}
+use Rattle.text.proofs.Puts.{each_none, each_more}
 use Rattle.report.specs.Rows.{row_item, row_lines}
 use Rattle.report.proofs.shown.put_db_period.Goals as goal
 
 pub loop-x-init : goal.loop-x-init
-loop-x-init c = (search rules, each_none _)
+loop-x-init c = each_none _
 
 pub loop-x-preserved : goal.loop-x-preserved
 unfolding row_item
-loop-x-preserved c = (search rules, search each_more depth 6)
-
-pub shape_of-out : goal.shape_of-out
-shape_of-out c = c.loop-x.invariant.1.long
+loop-x-preserved c = search each_more depth 6
 
 pub returns : goal.returns
 unfolding row_lines
-returns c =
-    let done = c.loop-x.invariant in
-    each_all _ _ _ done.0 c.loop-x-test.false done.1
+returns c = search rules

@@ -1,10 +1,6 @@
-use Prim.Native.Nat.{◌≤◌, ◌-◌}
-use Rattle.text.specs.Wrote.{Wrote, each}
+use Rattle.text.specs.Wrote.{Put, each}
 use Rattle.report.specs.Rows.{row_item}
 use Rattle.report.proofs.shown.put_db_period.Given as goal
 
 abbrev pub invariant-loop-x : goal.invariant-loop-x
-invariant-loop-x l = (l.x ≤ l.h.items) × Wrote l.initial.out l.at (each (row_item l.sets l.j l.p) l.x) l.out l.to
-
-abbrev pub decreases-loop-x : goal.decreases-loop-x
-decreases-loop-x l = l.h.items - l.x
+invariant-loop-x l = Put l.initial.out (each (row_item l.sets l.j l.p) l.x) l.out

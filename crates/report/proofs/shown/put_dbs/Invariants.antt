@@ -1,11 +1,7 @@
-use Prim.Native.Nat.{◌≤◌, ◌-◌}
 use Rattle.state.specs.Contents.{contents}
-use Rattle.text.specs.Wrote.{Wrote, each}
+use Rattle.text.specs.Wrote.{Put, each}
 use Rattle.report.specs.State.{db_peer}
 use Rattle.report.proofs.shown.put_dbs.Given as goal
 
 abbrev pub invariant-loop-k : goal.invariant-loop-k
-invariant-loop-k l = (l.k ≤ l.h.n) × Wrote l.initial.out l.at (each (db_peer l.h (contents l.s)) l.k) l.out l.to
-
-abbrev pub decreases-loop-k : goal.decreases-loop-k
-decreases-loop-k l = l.h.n - l.k
+invariant-loop-k l = Put l.initial.out (each (db_peer l.h (contents l.s)) l.k) l.out

@@ -1,12 +1,9 @@
--- The entry is the one that the match found.
-use Rattle.report.proofs.Part.{hash_hidden, backing_hidden, board-shown}
+-- The entry is a board, or it is none.
+use Rattle.report.proofs.Part.{board-shown, others_hidden}
 use Rattle.report.proofs.shown.put_entry.Goals as goal
-
-pub returns-in-Hash : goal.returns-in-Hash
-returns-in-Hash c = search hash_hidden
-
-pub returns-in-Backing : goal.returns-in-Backing
-returns-in-Backing c = search backing_hidden
 
 pub returns-in-Board : goal.returns-in-Board
 returns-in-Board c = search board-shown
+
+pub returns-in_default : goal.returns-in_default
+returns-in_default c = others_hidden _ _ c.in_default.not-Board

@@ -1,9 +1,8 @@
 -- The totals, and then the end.
-use Rattle.text.proofs.Writing.{◌▷◌}
+use Rattle.text.proofs.Puts.{◌▷◌}
 use Rattle.report.specs.State.{foot}
 use Rattle.report.proofs.shown.put_foot.Goals as goal
 
 pub returns : goal.returns
 unfolding foot
-returns c =
-    c.put_totals-to.ensures ▷ c.put_word.ensures
+returns c = c.put_totals.ensures ▷ c.word.ensures

@@ -1,5 +1,5 @@
 -- A line where there is a receipt.
-use Rattle.text.proofs.Writing.{kept, left_out}
+use Rattle.text.proofs.Puts.{kept, left_out}
 use Rattle.report.specs.State.{receipt_item}
 use Rattle.report.proofs.shown.put_receipt_item.Goals as goal
 
@@ -7,6 +7,6 @@ pub returns-then-is_there : goal.returns-then-is_there
 unfolding receipt_item
 returns-then-is_there c = search kept depth 6
 
-pub returns : goal.returns
+pub returns-else-is_there : goal.returns-else-is_there
 unfolding receipt_item
-returns c = search left_out depth 6
+returns-else-is_there c = search left_out depth 6

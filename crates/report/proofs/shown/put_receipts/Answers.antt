@@ -1,20 +1,15 @@
 -- The periods passed are written.
 use borrow.Author.Rules.{rules}
-use Rattle.text.proofs.Writing.{each_none, each_more, each_all}
+use Rattle.text.proofs.Puts.{each_none, each_more}
 use Rattle.report.specs.State.{receipt_lines}
 use Rattle.report.proofs.shown.put_receipts.Goals as goal
 
 pub loop-p-init : goal.loop-p-init
-loop-p-init c = (search rules, each_none _)
+loop-p-init c = each_none _
 
 pub loop-p-preserved : goal.loop-p-preserved
-loop-p-preserved c = (search rules, search each_more depth 6)
-
-pub shape_of-out : goal.shape_of-out
-shape_of-out c = c.loop-p.invariant.1.long
+loop-p-preserved c = search each_more depth 6
 
 pub returns : goal.returns
 unfolding receipt_lines
-returns c =
-    let done = c.loop-p.invariant in
-    each_all _ _ _ done.0 c.loop-p-test.false done.1
+returns c = search rules

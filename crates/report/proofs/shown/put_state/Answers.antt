@@ -1,11 +1,10 @@
 -- The parts of the report, one after the other.
 use mathlib.Core.Path.{ap}
-use Rattle.text.proofs.Writing.{◌▷◌, renamed}
+use Rattle.text.proofs.Puts.{◌▷◌, renamed}
 use Rattle.report.specs.State.{shown_lines, foot, state_lines}
 use Rattle.report.proofs.shown.put_state.Goals as goal
 
 pub returns : goal.returns
 unfolding state_lines shown_lines
 returns c =
-    c.put_dbs-a.ensures ▷ c.put_receipts-b.ensures ▷ c.put_boards-c.ensures
-    ▷ renamed (ap foot c.count.ensures) c.put_foot.ensures
+    c.put_dbs.ensures ▷ c.put_receipts.ensures ▷ c.put_boards.ensures ▷ renamed (ap foot c.count.ensures) c.put_foot.ensures

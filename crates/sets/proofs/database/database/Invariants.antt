@@ -1,4 +1,3 @@
-use Prim.Native.Nat.{◌≤◌, ◌-◌}
 use mathlib.Core.List.{[]}
 use Rattle.state.specs.Layout.{periods}
 use Rattle.base.specs.Tab.{FilledTo}
@@ -7,7 +6,4 @@ use Rattle.sets.specs.Database.{row_of}
 use Rattle.sets.proofs.database.database.Given as goal
 
 abbrev pub invariant-loop-p : goal.invariant-loop-p
-invariant-loop-p l = (l.p ≤ periods) × FilledTo [] periods (row_of (contents l.s) l.j) l.p l.d
-
-abbrev pub decreases-loop-p : goal.decreases-loop-p
-decreases-loop-p l = periods - l.p
+invariant-loop-p l = FilledTo [] periods (row_of (contents l.s) l.j) l.p l.d

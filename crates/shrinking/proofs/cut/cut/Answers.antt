@@ -12,5 +12,12 @@ step_count-n-requires c =
 pub returns-then-n-eq0 : goal.returns-then-n-eq0
 returns-then-n-eq0 c = search no_steps
 
+pub invariant_of-trial : goal.invariant_of-trial
+invariant_of-trial c =
+    let given = c.requires in
+    record { fixed = fixed given.0 given.1 c.head_of.ensures c.clash_rows-rows.ensures c.step_count-n.ensures c.if-n-eq0.false }
+
 pub cut_steps-requires : goal.cut_steps-requires
-cut_steps-requires c = (search fixed, search uncut)
+cut_steps-requires c =
+    let given = c.requires in
+    uncut given.0 given.2 given.3 given.4 c.step_count-n.ensures c.if-n-eq0.false

@@ -1,5 +1,5 @@
 -- The line where the step is kept.
-use Rattle.text.proofs.Writing.{kept, left_out}
+use Rattle.text.proofs.Puts.{kept, left_out}
 use Rattle.shrinking.specs.Shrunk.{kept_line}
 use Rattle.shrinking.proofs.print.put_kept.Goals as goal
 
@@ -7,6 +7,6 @@ pub returns-then-is_kept : goal.returns-then-is_kept
 unfolding kept_line
 returns-then-is_kept c = search kept depth 6
 
-pub returns : goal.returns
+pub returns-else-is_kept : goal.returns-else-is_kept
 unfolding kept_line
-returns c = search left_out depth 6
+returns-else-is_kept c = search left_out depth 6

@@ -1,15 +1,9 @@
--- Every peer so far passes.
-use Rattle.valid.proofs.Fields.{by-each-peer}
+-- Each peer passes the test.
+use Rattle.std.proofs.Common.{rules}
+use borrow.Author.Tests.{tests}
+use Rattle.base.proofs.Ranges.{all_in_range}
+use Rattle.valid.proofs.Fields.{numbers_at, by_peers}
 use Rattle.valid.proofs.counters.peers_ok.Goals as goal
 
-pub loop-i-init : goal.loop-i-init
-loop-i-init c = search by-each-peer
-
-pub returns-then-not-numbers_ok : goal.returns-then-not-numbers_ok
-returns-then-not-numbers_ok c = search by-each-peer depth 12
-
-pub loop-i-preserved : goal.loop-i-preserved
-loop-i-preserved c = search by-each-peer depth 12
-
 pub returns : goal.returns
-returns c = search by-each-peer depth 12
+returns c = by_peers _ _ _ (all_in_range (numbers_at c.args.h c.args.s.now) _ c.all.ensures.ran (λ x b q k. search (rules, tests)))

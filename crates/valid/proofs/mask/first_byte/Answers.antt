@@ -6,11 +6,11 @@ use Rattle.base.proofs.Masks.{shifted}
 use Rattle.valid.proofs.Masks.{first_full, first_past, first_last}
 use Rattle.valid.proofs.mask.first_byte.Goals as goal
 
-pub returns-then-b-wide : goal.returns-then-b-wide
-returns-then-b-wide c = first_full _ _ (omega arith)
+pub returns-then-b-n : goal.returns-then-b-n
+returns-then-b-n c = first_full _ _ (omega arith)
 
-pub returns-then-b-wide-2 : goal.returns-then-b-wide-2
-returns-then-b-wide-2 c = first_past _ _ (omega arith)
+pub returns-then-b-n-2 : goal.returns-then-b-n-2
+returns-then-b-n-2 c = first_past _ _ (omega arith)
 
 pub overflow_sub-result : goal.overflow_sub-result
 overflow_sub-result c =

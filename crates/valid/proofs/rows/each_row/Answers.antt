@@ -1,27 +1,13 @@
--- Every row so far has only bits that it may have.
-use native.Mathlib.Omega.{arith}
+-- Each row has only bits that it may have.
 use lib.ListN.{length}
-use Rattle.valid.proofs.Only.{by-each-row}
-use Rattle.valid.proofs.Only.{row_fits}
+use Rattle.std.proofs.Common.{rules}
+use borrow.Author.Tests.{tests}
+use Rattle.base.proofs.Ranges.{all_in_range}
+use Rattle.bits.specs.Row.{bit_at}
+use Rattle.valid.proofs.Only.{row_in, by_rows, by_row_lem}
 use Rattle.valid.proofs.rows.each_row.Goals as goal
 
-pub loop-i-init : goal.loop-i-init
-loop-i-init c = search by-each-row
-
-pub overflow_mul-mask : goal.overflow_mul-mask
-overflow_mul-mask c = omega (arith, row_fits (length c.args.mask.now) _ _ c.loop-i-test.true)
-
-pub overflow_add-o : goal.overflow_add-o
-overflow_add-o c = omega (arith, row_fits (length c.args.mask.now) _ _ c.loop-i-test.true)
-
-pub row-requires : goal.row-requires
-row-requires c = omega (arith, row_fits (length c.args.mask.now) _ _ c.loop-i-test.true)
-
-pub returns-then-not-row : goal.returns-then-not-row
-returns-then-not-row c = search by-each-row depth 12
-
-pub loop-i-preserved : goal.loop-i-preserved
-loop-i-preserved c = search by-each-row depth 12
-
 pub returns : goal.returns
-returns c = search by-each-row depth 12
+returns c =
+    let f = row_in c.args.s.now c.args.o c.args.used (length c.args.mask.now) (bit_at c.args.mask.now) in
+    by_rows _ _ _ _ _ _ _ (all_in_range f _ c.all.ensures.ran (λ x b q k. search (rules, tests, by_row_lem)))

@@ -1,37 +1,20 @@
--- Every peer's rows so far have only bits that they may have.
+-- Each row has only bits that it may have.
 use Prim.Native.Nat.{◌*◌}
-use native.Mathlib.Omega.{arith}
 use lib.ListN.{length}
-use borrow.Author.Rules.{rules}
+use Rattle.std.proofs.Common.{rules}
+use borrow.Author.Tests.{tests}
+use Rattle.std.proofs.iter.Serving.{serving}
+use Rattle.base.proofs.Ranges.{all_in_range}
+use Rattle.bits.specs.Row.{bit_at}
 use Rattle.state.specs.Layout.{periods}
-use Rattle.valid.proofs.Only.{by-each-row}
-use Rattle.valid.proofs.Only.{row_fits}
+use Rattle.valid.specs.Rows.{in_rows}
+use Rattle.valid.proofs.Only.{row_in, by_rows, by_row_lem, row_fits}
 use Rattle.valid.proofs.rows.each_table.Goals as goal
 
-pub loop-j-init : goal.loop-j-init
-loop-j-init c = search by-each-row
-
-pub overflow_mul-mask-in-loop-j : goal.overflow_mul-mask-in-loop-j
-overflow_mul-mask-in-loop-j c = omega (arith, row_fits (periods * length c.args.mask.now) _ _ c.loop-j-test.true)
-
-pub overflow_add-o : goal.overflow_add-o
-overflow_add-o c = omega (arith, row_fits (periods * length c.args.mask.now) _ _ c.loop-j-test.true)
-
-pub table-requires : goal.table-requires
-table-requires c = (
-  search rules,
-  omega (
-    arith,
-    row_fits (periods * length c.args.mask.now) _ _
-        c.loop-j-test.true,
-  ),
-)
-
-pub returns-then-not-table : goal.returns-then-not-table
-returns-then-not-table c = search by-each-row depth 12
-
-pub loop-j-preserved : goal.loop-j-preserved
-loop-j-preserved c = search by-each-row depth 12
-
 pub returns : goal.returns
-returns c = search by-each-row depth 12
+returns c =
+    let f = row_in c.args.s.now c.args.o c.args.n (periods * length c.args.mask.now) (in_rows c.args.used (length c.args.mask.now) (bit_at c.args.mask.now)) in
+    by_rows _ _ _ _ _ _ _ (all_in_range f _ c.all.ensures.ran (λ x b q k. search (rules, tests, by_row_lem)))
+
+pub all-requires-clause-callable : goal.all-requires-clause-callable
+all-requires-clause-callable c = grind (serving, row_fits)

@@ -14,11 +14,8 @@ loop-i-init c = search rules
 
 pub loop-i-preserved : goal.loop-i-preserved
 loop-i-preserved c =
-    let l = c.loop-i in (
-      search rules,
-      only_more _ _ _ _ l.beside l.invariant.1 (Fits-lt-pow (c.type_inv.s _))
-          (c.shared_slice_known-in-loop-i-1.given _).fits,
-    )
+    let l = c.loop-i in
+    only_more _ _ _ _ l.beside l.invariant (Fits-lt-pow (c.type_inv.s _)) (c.shared_slice_known-in-loop-i-1.given _).fits
 
 pub returns : goal.returns
-returns c = every-all _ _ _ _ (omega arith) c.loop-i.invariant.1 ∙ sym (only_bytes _ _ _ _)
+returns c = every-all _ _ _ _ (omega arith) c.loop-i.invariant ∙ sym (only_bytes _ _ _ _)

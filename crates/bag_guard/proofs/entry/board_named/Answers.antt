@@ -1,6 +1,0 @@
--- By `is_named`.
-use Rattle.bag_guard.proofs.Named.{is_named}
-use Rattle.bag_guard.proofs.entry.board_named.Goals as goal
-
-pub returns : goal.returns
-returns c = search is_named

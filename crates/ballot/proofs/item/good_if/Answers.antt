@@ -1,5 +1,0 @@
--- By the test.
-use Rattle.ballot.proofs.item.good_if.Goals as goal
-
-pub returns-then-ok : goal.returns-then-ok
-returns-then-ok c = cc

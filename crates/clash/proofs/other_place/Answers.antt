@@ -1,5 +1,0 @@
--- By the kind; of an audit that names its place, by the place.
-use Rattle.clash.proofs.other_place.Goals as goal
-
-pub returns-in-PlacedAudit : goal.returns-in-PlacedAudit
-returns-in-PlacedAudit c = rw c.in-PlacedAudit.is

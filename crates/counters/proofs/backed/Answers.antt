@@ -1,6 +1,0 @@
--- The struct is built as the definition builds it.
-use mathlib.Core.Path.{refl}
-use Rattle.counters.proofs.backed.Goals as goal
-
-pub returns : goal.returns
-returns c = refl

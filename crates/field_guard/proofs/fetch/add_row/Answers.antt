@@ -1,5 +1,0 @@
-use Rattle.field_guard.proofs.Fetched.{row_done}
-use Rattle.field_guard.proofs.fetch.add_row.Goals as goal
-
-pub returns : goal.returns
-returns c = search row_done

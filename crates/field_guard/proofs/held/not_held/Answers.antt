@@ -1,4 +1,0 @@
-use Rattle.field_guard.proofs.held.not_held.Goals as goal
-
-pub returns : goal.returns
-returns c = simp (c.holds.ensures, c.current.ensures)

@@ -1,5 +1,0 @@
-use Rattle.base.proofs.Tests.{read-tests}
-use Rattle.field_guard.proofs.periods.not_closed.Goals as goal
-
-pub returns : goal.returns
-returns c = search read-tests

@@ -1,6 +1,0 @@
-use native.Mathlib.Omega.{arith}
-use Rattle.field_state.proofs.Changed.{fall_done}
-use Rattle.field_state.proofs.change.fall.Goals as goal
-
-pub returns : goal.returns
-returns c = search (fall_done, arith)

@@ -1,6 +1,0 @@
-use native.Mathlib.Omega.{arith}
-use Rattle.field_state.proofs.Changed.{rise_done}
-use Rattle.field_state.proofs.change.rise.Goals as goal
-
-pub returns : goal.returns
-returns c = search (rise_done, arith)

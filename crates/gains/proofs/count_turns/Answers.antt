@@ -1,6 +1,0 @@
--- The backs passed are counted.
-use Rattle.gains.proofs.Counted.{all_turns}
-use Rattle.gains.proofs.count_turns.Goals as goal
-
-pub returns : goal.returns
-returns c = search all_turns

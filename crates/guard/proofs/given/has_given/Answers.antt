@@ -1,4 +1,0 @@
-use Rattle.guard.proofs.given.has_given.Goals as goal
-
-pub returns : goal.returns
-returns c = simp (c.given_before.ensures, c.current_of.ensures)

@@ -1,6 +1,0 @@
--- By `not_below`.
-use Rattle.base.proofs.Tests.{not_below}
-use Rattle.guard.proofs.names.no_item.Goals as goal
-
-pub returns : goal.returns
-returns c = search not_below

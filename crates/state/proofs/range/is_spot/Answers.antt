@@ -1,8 +1,0 @@
--- The peer is tested first, as in `is_spot`.
-use Rattle.state.proofs.range.is_spot.Goals as goal
-
-pub returns-then-is_peer : goal.returns-then-is_peer
-returns-then-is_peer c = rw (← c.is_peer.ensures, c.if-is_peer.true) c.is_cell.ensures
-
-pub returns : goal.returns
-returns c = rw (← c.is_peer.ensures, c.if-is_peer.false)
