@@ -15,7 +15,7 @@ use state::layout;
 
 // The kinds of entries, each with its byte.
 #[derive(Clone, Copy)]
-pub enum Kind {
+enum Kind {
     Hash = 1,
     Backing = 2,
     Board = 3,
@@ -106,20 +106,25 @@ fn start_of(e: usize) -> usize
 
 // The signer in the bytes from o on if they have this kind, period and board. Periods differ most often.
 #[tactic(auto, unfolding(crate::specs::Bag::written_signer))]
-fn written_signer(s: &[u8], o: usize, kind: Kind, period: u8, board: u64) -> Option<u8>
+fn written_signer(s: &[u8], o: usize, kind: u8, period: u8, board: u64) -> Option<u8>
     requires { o + entry_size ≤ length s.now }
-    ensures { result ≡ written_signer s.now o (byte_of kind) period board }
+    ensures { result ≡ written_signer s.now o kind period board }
 {
     let found = s[o + layout::PERIOD_IN] == period
-        && s[o] == kind.byte()
+        && s[o] == kind
         && bits::load(s, o + layout::BOARD_IN, layout::ITEM_BYTES) == board;
-    found.then_some(s[o + layout::SIGNER_IN])
+    // The signer is read only then: read before, it costs ten instructions an entry.
+    if found {
+        Some(s[o + layout::SIGNER_IN])
+    } else {
+        None
+    }
 }
 
-// The signer of entry e if it has this kind, period and board.
-pub fn signer_at(s: &[u8], e: usize, kind: Kind, period: u8, board: u64) -> Option<u8>
+// The signer of entry e if it has this kind, period and board. The kind is any byte: no entry has one that is none.
+pub fn signer_at(s: &[u8], e: usize, kind: u8, period: u8, board: u64) -> Option<u8>
     requires { Canon s.now × (e < length (contents s.now).bag) }
-    ensures { result ≡ signer_found (byte_of kind) period board (nth (contents s.now).bag e) }
+    ensures { result ≡ signer_found kind period board (nth (contents s.now).bag e) }
 {
     written_signer(s, start_of(e), kind, period, board)
 }
@@ -144,7 +149,9 @@ fn is_entry(s: &[u8], e: usize, x: Entry) -> bool
     is_written(s, start_of(e), Four::from(x))
 }
 
-// Whether the bag has x.
+// Whether the bag has x. It stays a function of its own: within the step its loop is laid out so that it takes a third
+// more time.
+#[inline(never)]
 pub fn is_in(s: &[u8], x: Entry) -> bool
     requires { Canon s.now }
     ensures { result ≡ is_in x (contents s.now).bag }

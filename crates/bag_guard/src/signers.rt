@@ -6,10 +6,11 @@ ghost use Rattle.view.specs.View.{quorum_of, heard_on, backers_on};
 ghost use Rattle.view.specs.Ready.{Ready};
 ghost use Rattle.bag_guard.specs.Signers.{or_zero, heard_signer, back_signer, gathered};
 
-use bag::{Kind, bag_len, signer_at};
+use bag::{bag_len, signer_at};
 use header::quorum::{PeerSet, reaches, with_peer};
 use header::{Head, Sharers, Signers};
 use state::facts::is_heard_by;
+use state::layout::{BACKING, HASH};
 
 // The peers that the function finds for 0 to n - 1, gathered into a set.
 pub fn gather<S: PeerSet, F: Fn(usize) -> Option<u8>>(n: usize, signer: F) -> S
@@ -31,7 +32,7 @@ fn heard_signer(s: &[u8], j: u8, p: u8, board: u64, e: usize) -> Option<u8>
     requires { Canon s.now × (e < length (bag_on s.now)) × (e < entries) }
     ensures { or_zero result ≡ heard_signer (contents s.now) j p board e }
 {
-    match signer_at(s, e, Kind::Hash, p, board) {
+    match signer_at(s, e, HASH, p, board) {
         Some(k) => is_heard_by(s, j, e as u8).then_some(k),
         None => None,
     }
@@ -52,6 +53,6 @@ pub fn few_backers(s: &[u8], h: Head, p: u8, board: u64) -> bool
     ensures { result ≡ not (quorum_of h (backers_on s.now p board)) }
 {
     // A backing is signed with the share key.
-    let backers: Sharers = gather(bag_len(s), |e| signer_at(s, e, Kind::Backing, p, board));
+    let backers: Sharers = gather(bag_len(s), |e| signer_at(s, e, BACKING, p, board));
     !reaches(h, backers)
 }

@@ -27,6 +27,11 @@ pub mix_more : (c : List ℕ) (i h b : ℕ) → h ≡ mix_to c i → b ≡ byte_
 unfolding mix_to
 mix_more c i h b e f = rw (add-one i, e, f)
 
+-- the hash of a step
+pub hash_is : (t : List ℕ) (j : ℕ) {a : List ℕ} {h : ℕ} → a ≡ part t (13 * j) 13 → h ≡ mix_of a → h ≡ mix_of (file_call t j)
+unfolding file_call
+hash_is t j p q = q ∙ ap mix_of p
+
 -- the bytes of two steps
 pub same_parts : (s t : List ℕ) (i j : ℕ) (a b : List ℕ) {r : Bool} → a ≡ part t (13 * j) 13 → b ≡ part s (13 * i) 13
     → r ≡ pointwise eqb a b → r ≡ same_bytes (file_call t j) (file_call s i)

@@ -31,13 +31,14 @@ fn same_step(s: &[u8], i: usize, t: &[u8], j: usize) -> bool
     part_of(t, 13 * j, 13) == part_of(s, 13 * i, 13)
 }
 
-// The new step of s that has the bytes of step j of t. A chain has one more than a step's number, and 0 at its end.
-fn find(s: &[u8], heads: &[u16], links: &[u16], t: &[u8], j: usize) -> Option<usize>
-    requires { (13 * j ≤ length t.now) × Chains s.now (length links.now) heads.now links.now }
+// The new step of s that has the bytes of step j of t, whose hash is h. A chain has one more than a step's number, and
+// 0 at its end.
+fn find(s: &[u8], heads: &[u16], links: &[u16], t: &[u8], j: usize, h: usize) -> Option<usize>
+    requires { (13 * j ≤ length t.now) × Chains s.now (length links.now) heads.now links.now
+        × (h ≡ mix_of (file_call t.now j)) × (h < 4096) }
     ensures { result ≡ below (last_where (new_like s.now (file_call t.now j))
         (length links.now)) }
 {
-    let h = mix_of(part_of(t, 13 * j, 13));
     let mut at = heads[h] as usize;
     while 0 < at {
         let i = at - 1;
@@ -49,28 +50,21 @@ fn find(s: &[u8], heads: &[u16], links: &[u16], t: &[u8], j: usize) -> Option<us
     None
 }
 
-// Whether step k is a 16 that does not stand before; the chains have the steps before it.
-fn is_new(s: &[u8], k: usize, heads: &[u16], links: &[u16]) -> bool
-    requires { (13 * k + 13 ≤ length s.now) × Chains s.now k heads.now links.now }
-    ensures { result ≡ is_new s.now k }
-{
-    if byte_at(s, 13 * k) != 16 {
-        return false;
-    }
-    find(s, heads, &links[..k], s, k).is_none()
-}
-
-// Puts step k into its chain if it is new, and says whether it is.
+// Puts step k into its chain if it is a 16 that does not stand before, and says whether it is; the chains have the
+// steps before it. Its hash serves the search and the chain.
 fn join(s: &[u8], k: usize, heads: &mut [u16], links: &mut [u16]) -> bool
     requires { (13 * k + 13 ≤ length s.now) × (k < 8192) × (length links.old ≡ 8192)
         × Chains s.now k heads.old links.old }
     ensures { (result ≡ is_new s.now k) × (length links.new ≡ 8192)
         × Chains s.now (k + 1) heads.new links.new }
 {
-    if !is_new(s, k, heads, links) {
+    if byte_at(s, 13 * k) != 16 {
         return false;
     }
     let h = mix_of(part_of(s, 13 * k, 13));
+    if find(s, heads, &links[..k], s, k, h).is_some() {
+        return false;
+    }
     links[k] = heads[h];
     heads[h] = (k + 1) as u16;
     true
@@ -98,7 +92,8 @@ fn strike(s: &[u8], j: usize, block: &[u8], heads: &[u16], links: &[u16], fresh:
     if byte_at(s, 13 * j) != 16 {
         return;
     }
-    if let Some(i) = find(block, heads, links, s, j) {
+    let h = mix_of(part_of(s, 13 * j, 13));
+    if let Some(i) = find(block, heads, links, s, j, h) {
         fresh[i] = 0;
     }
 }

@@ -24,14 +24,15 @@ pub struct Trial<'a> {
 }
 
 impl<'a> Trial<'a> {
-    // Runs step k if it is kept.
-    fn run_if_kept(&self, flags: &[u8], k: usize, s: &mut [u8])
-        requires { (k < input_most) × Stands self.now.input.now (kept flags.now) k s.old }
+    // Runs step k if it is kept. The head is handed on: taken out of the trial here it is copied for each step.
+    fn run_if_kept(&self, h: Head, flags: &[u8], k: usize, s: &mut [u8])
+        requires { (h ≡ self.now.head) × (k < input_most)
+            × Stands self.now.input.now (kept flags.now) k s.old }
         ensures { Stands self.now.input.now (kept flags.now) (k + 1) s.new }
     {
         if is_kept(flags, k) {
             let step = call_at(self.input, self.table.len(), k);
-            let _ = engine::run_step(self.table, s, self.head, self.rows, step);
+            let _ = engine::run_step(self.table, s, h, self.rows, step);
         }
     }
 
@@ -40,9 +41,10 @@ impl<'a> Trial<'a> {
         requires { length s.old ≡ size }
         ensures { Stands self.now.input.now (kept flags.now) self.now.last s.new }
     {
+        let h = self.head;
         engine::clear(s);
         for k in 0..self.last {
-            self.run_if_kept(flags, k, s);
+            self.run_if_kept(h, flags, k, s);
         }
     }
 

@@ -1,9 +1,12 @@
 -- A walk along one chain, from its last step to its first.
+use mathlib.Core.Path.{refl}
+use Rattle.gains.specs.File.{file_call}
 use Rattle.gains.proofs.Chains.{walk_starts, walk_found, walk_falls, walk_on, walk_ends}
 use Rattle.gains.proofs.different.find.Goals as goal
 
 pub loop-at-init : goal.loop-at-init
-loop-at-init c = search walk_starts
+unfolding file_call
+loop-at-init c = walk_starts _ _ _ _ _ _ c.requires.1 refl c.requires.2 c.requires.3 refl
 
 pub returns-then-same_step : goal.returns-then-same_step
 returns-then-same_step c = search walk_found

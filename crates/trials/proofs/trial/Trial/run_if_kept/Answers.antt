@@ -11,12 +11,12 @@ call_at-step-requires c =
 pub run_step-requires : goal.run_step-requires
 run_step-requires c =
     let M = c.args.self.now.fixed.made in
-    (M.prepared, can_run M c.requires.1)
+    rw c.requires.0 (M.prepared, can_run M c.requires.2)
 
 pub returns-then-is_kept : goal.returns-then-is_kept
 returns-then-is_kept c =
-    step_ran c.args.self.now.fixed.made c.requires.1 c.is_kept.ensures c.if-is_kept.true c.call_at-step.ensures
+    step_ran c.args.self.now.fixed.made c.requires.2 c.is_kept.ensures c.if-is_kept.true c.call_at-step.ensures
     c.run_step.ensures.1
 
 pub returns-else-is_kept : goal.returns-else-is_kept
-returns-else-is_kept c = step_skipped c.args.self.now.fixed.made c.requires.1 c.is_kept.ensures c.if-is_kept.false
+returns-else-is_kept c = step_skipped c.args.self.now.fixed.made c.requires.2 c.is_kept.ensures c.if-is_kept.false
