@@ -27,13 +27,13 @@ pub struct Rehearsal<'a> {
 }
 
 impl<'a> Rehearsal<'a> {
-    // Runs step k and writes its line.
-    fn run_one(&self, k: usize, s: &mut [u8], out: &mut Printer)
-        requires { (k < input_most) × (s.old ≡ state_at self.now.input.now k) }
+    // Runs step k and writes its line. The head is handed on: taken out of the rehearsal here it is copied for each step.
+    fn run_one(&self, h: Head, k: usize, s: &mut [u8], out: &mut Printer)
+        requires { (h ≡ self.now.head) × (k < input_most) × (s.old ≡ state_at self.now.input.now k) }
         ensures { RanOne self.now.input.now k s.new out.old out.new }
     {
         let step = call_at(self.input, self.start, k);
-        let answer = answer(engine::run_step(self.table, s, self.head, self.rows, step));
+        let answer = answer(engine::run_step(self.table, s, h, self.rows, step));
         put_step(out, (k + 1) as u64, answer);
     }
 
@@ -42,8 +42,9 @@ impl<'a> Rehearsal<'a> {
         requires { s.old ≡ state_at self.now.input.now 0 }
         ensures { Ran self.now.input.now (step_count self.now.input.now) s.new out.old out.new }
     {
+        let h = self.head;
         for k in 0..step_count(self.input) {
-            self.run_one(k, s, out);
+            self.run_one(h, k, s, out);
         }
     }
 

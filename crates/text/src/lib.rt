@@ -30,8 +30,10 @@ impl<'a> Printer<'a> {
     {
         if self.at < self.out.len() {
             self.out[self.at] = b;
+            self.at += 1;
+        } else {
+            self.at = self.at.saturating_add(1);
         }
-        self.at = self.at.saturating_add(1);
     }
 
     // Writes a word, byte by byte.
@@ -43,8 +45,10 @@ impl<'a> Printer<'a> {
         for b in word {
             if at < out.len() {
                 out[at] = *b;
+                at += 1;
+            } else {
+                at = at.saturating_add(1);
             }
-            at = at.saturating_add(1);
         }
         self.at = at;
     }

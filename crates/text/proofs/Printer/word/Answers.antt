@@ -9,11 +9,10 @@ loop-b-init c = none
 
 pub loop-b-preserved : goal.loop-b-preserved
 loop-b-preserved c =
-    let next = c.saturating_add-at.ensures in
     word_more _ _ c.loop-b-test.true c.loop-b.invariant (
     elim c.if-at-out.branch [
-      | then-at-out w ↦ rw w.out-is (at_most next (byte_in_lem _ _ _))
-      | else-at-out w ↦ rw w.out-is (at_most next (byte_out _ _ _ _ w.if-at-out.false refl))
+      | then-at-out w ↦ rw (w.out-is, w.at-is) (byte_in_lem _ _ _)
+      | else-at-out w ↦ rw (w.out-is, w.at-is) (at_most w.saturating_add-at.ensures (byte_out _ _ _ _ w.if-at-out.false refl))
     ]
     )
 

@@ -1,4 +1,5 @@
 -- The steps passed were run, and their lines are written.
+use mathlib.Core.Path.{refl}
 use Rattle.rehearsal.proofs.States.{few_steps, same_long, none_ran, more_ran, all_ran}
 use Rattle.rehearsal.proofs.run.Rehearsal.run.Goals as goal
 
@@ -7,7 +8,7 @@ loop-k-init c = none_ran c.requires
 
 pub run_one-requires : goal.run_one-requires
 run_one-requires c =
-    (few_steps c.args.self.now.made.taken c.step_count-k-end.ensures c.loop-k-test.true, c.loop-k.invariant.state)
+    (refl, few_steps c.args.self.now.made.taken c.step_count-k-end.ensures c.loop-k-test.true, c.loop-k.invariant.state)
 
 pub loop-k-preserved : goal.loop-k-preserved
 loop-k-preserved c = search more_ran
