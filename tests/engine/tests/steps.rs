@@ -116,11 +116,15 @@ fn same_answers_and_bytes() {
     assert!(given.iter().all(|times| *times > 200));
 }
 
-/// On weighted tables, where numbers of peers would often decide otherwise.
+/// On weighted tables, where numbers of peers would often decide otherwise. Few tables have a back of many peers that
+/// weigh too little, and some seeds none among 150: then more are tried.
 #[test]
 fn same_answers_and_bytes_with_weights() {
     let (seed, mut seen) = (run_seed(), Seen::default());
-    for number in 0..150 {
+    for number in 0..600 {
+        if number >= 150 && seen.decided.rare(5).is_empty() {
+            break;
+        }
         let mut random = Random::new(!seed, number);
         let text = unequal_table(&mut random);
         run_on(text, &mut random, &mut seen);
